@@ -1,0 +1,39 @@
+-- When a device may answer that it failed, and what of its bytes is known.
+-- A count of faults never falls, and code that is given a device cannot raise it: so `failed only where the count
+-- rose` refuses a body that gives up. This project's own.
+use Rattle.std.specs.Prelude.{◌≡◌, ℕ, ◌+◌, ◌-◌, ◌^◌, ◌<◌, ◌≤◌, min, List, length, take, drop, ⊤, Option, None, Some, Result, IfOk, OnErr, IsErrOf}
+use Rattle.rl_ports.specs.declared.fault.PortFault.{PortFault}
+use Rattle.rl_ports.specs.declared.fault.PortFault.TheVariants as ports
+
+-- a count of faults has risen, or stands at its type's end
+abbrev pub Rose : ℕ → ℕ → Type 0
+Rose before now = min (before + 1) (2 ^ 64 - 1) ≤ now
+
+-- the count never falls, and an error comes only where it rose
+pub record HasCause {T E : Type 0} (before now : ℕ) (result : Result T E) : Type 0 where
+  pub later : before ≤ now
+  pub failed : OnErr result (Rose before now)
+
+-- the same, where want of memory has no cause
+pub record HasPortCause {T : Type 0} (before now : ℕ) (result : Result T PortFault) : Type 0 where
+  pub later : before ≤ now
+  pub failed : IsErrOf result ports.Failed → Rose before now
+
+-- of a write that takes nothing of a piece, too
+abbrev pub CountsNothing : {E : Type 0} → ℕ → ℕ → Result ℕ E → List ℕ → Type 0
+CountsNothing before now result piece = IfOk result (λ n. n ≡ 0 → 0 < length piece → Rose before now)
+
+-- what is said of contents where the device tells them
+abbrev pub Told : {T : Type 0} → Option T → (T → Type 0) → Type 0
+Told None P = ⊤
+Told (Some x) P = P x
+
+-- the first n bytes that a read gave are those of the log from this place on, and 0 stands for its end
+pub record ReadsLog (bytes : List ℕ) (at n : ℕ) (into : List ℕ) : Type 0 where
+  pub given : take n into ≡ take n (drop at bytes)
+  pub end : n ≡ 0 → 0 < length into → length bytes ≤ at
+
+-- the same of the log that an archive has, if it has it
+abbrev pub ReadsFrom : Option (List ℕ) → ℕ → List ℕ → ℕ → Type 0
+ReadsFrom None at into n = ⊤
+ReadsFrom (Some bytes) at into n = ReadsLog bytes at n into
