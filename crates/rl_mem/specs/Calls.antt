@@ -1,0 +1,30 @@
+-- Which calls of a device in memory fail: calls count from 1 over all calls of the device, and those whose numbers
+-- are in a list fail. Both counts stand still at their type's end.
+use Rattle.std.specs.Prelude.{ℕ, ◌+◌, ◌-◌, ◌^◌, List, Bool, min, ◌==◌, if◌then◌else◌}
+use Rattle.std.specs.List.{list_any}
+
+-- the calls that are to fail, how many calls were made, and how many failed
+pub record Counted : Type 0 where
+  pub fails : List ℕ
+  pub made : ℕ
+  pub faults : ℕ
+
+-- before the first call
+abbrev pub uncalled : List ℕ → Counted
+uncalled fails = record { fails = fails; made = 0; faults = 0 }
+
+-- one more, as far as 64 bits go
+abbrev pub one_more : ℕ → ℕ
+one_more n = min (n + 1) (2 ^ 64 - 1)
+
+-- the next call is to fail
+abbrev pub fails_next : Counted → Bool
+fails_next c = list_any (λ n. n == one_more c.made) c.fails
+
+-- after a failure of its own
+abbrev pub faulted : Counted → Counted
+faulted c = record { fails = c.fails; made = c.made; faults = one_more c.faults }
+
+-- after a call
+abbrev pub called : Counted → Counted
+called c = record { fails = c.fails; made = one_more c.made; faults = if fails_next c then one_more c.faults else c.faults }
