@@ -1,0 +1,7 @@
+use Rattle.std.proofs.Common.{arith}
+use Rattle.rl_text.proofs.Texts.{line-signed_decimal}
+use Rattle.rl_text.proofs.literal.add_signed.Goals as goal
+
+-- digits hold no line end
+pub extend-requires : goal.extend-requires
+extend-requires c = record { inside = rw (c.as_bytes.ensures.value, c.in-Ok.ensures.ok) (line-signed_decimal _ (omega arith)) }
