@@ -1,0 +1,4 @@
+pub mod Rule
+pub mod Token
+pub mod Guard
+pub mod Lending
