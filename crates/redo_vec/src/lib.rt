@@ -1,0 +1,33 @@
+//! Records of the redo and their vectors.
+#![tactic(auto)]
+
+mod change;
+mod columns;
+mod decoding;
+mod encoding;
+mod encoding_changes;
+mod encoding_fields;
+mod encoding_tables;
+mod fault;
+mod fields;
+mod keys;
+mod line30;
+mod reading_changes;
+mod reading_tables;
+mod redo_rec;
+mod table;
+mod vector;
+
+pub use change::{Change, Op};
+pub use columns::{Column, Columns, Kind};
+pub use decoding::decode_record;
+pub use encoding::{encode_record, one_spelling};
+pub use fault::DecodeFault;
+pub use keys::{KeyColumns, KeyLists};
+pub use line30::Line30;
+pub use redo_rec::RedoRec;
+pub use table::TableRow;
+pub use vector::{Vector, Vectors};
+
+#[cfg(test)]
+mod tests;

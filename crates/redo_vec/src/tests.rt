@@ -1,0 +1,178 @@
+ghost use Rattle.std.specs.Prelude.{◌≡◌, ◌≤◌, length, IsTrue, IfOk, Ok, []};
+ghost use Rattle.redo_vec.specs.Spelling.{record_bytes};
+ghost use Rattle.redo_vec.specs.Cutting.{first_record};
+
+use super::*;
+use rl_value::{Value, VecFault, Xid};
+use std::alloc::Global;
+use std::process::Abort;
+use std::test::Fail;
+
+// The records of a first log: its dictionary, an insert of 7, and its commit.
+const DICTIONARY: [u8; 35] = [
+    0, 0, 0, 0x23, 0, 0, 0, 0, 0, 0, 0, 0x64, 0, 2, 8, 0, 0, 0, 1, 1, 0x54, 1, 0x41, 1, 2, 0x49,
+    0x44, 1, 0, 0, 0, 1, 0, 0, 9,
+];
+
+const INSERT: [u8; 48] = [
+    0, 0, 0, 0x30, 0, 0, 0, 0, 0, 0, 0, 0x65, 0, 2, 1, 0, 1, 0, 2, 0, 0, 0, 3, 2, 0, 1, 0, 2, 0, 0,
+    0, 3, 0, 0, 0, 1, 0, 1, 0, 1, 0, 0, 0, 0, 0, 0, 0, 7,
+];
+
+const COMMIT: [u8; 23] = [
+    0, 0, 0, 0x17, 0, 0, 0, 0, 0, 0, 0, 0x66, 0, 1, 6, 0, 1, 0, 2, 0, 0, 0, 3,
+];
+
+const XID: Xid = Xid {
+    usn: 1,
+    slot: 2,
+    sqn: 3,
+};
+
+// Whether the cutter takes these bytes as one record.
+fn is_cut(bytes: &[u8]) -> bool
+    ensures cut { IsTrue result → first_record bytes.now ≡ Ok (bytes.now, []) }
+    ensures short { IsTrue result → length bytes.now ≤ 65536 }
+{
+    bytes.len() >= 15
+        && bytes.len() <= 65536
+        && u32::from_be_bytes([bytes[0], bytes[1], bytes[2], bytes[3]]) as usize == bytes.len()
+        && u16::from_be_bytes([bytes[12], bytes[13]]) >= 1
+        && u16::from_be_bytes([bytes[12], bytes[13]]) <= 255
+}
+
+fn decoded(rt: &impl Abort, alloc: Global, bytes: &[u8]) -> Result<RedoRec, DecodeFault>
+    ensures spelled { IfOk result (λ rec. bytes.now ≡ record_bytes rec) }
+    ensures short { length bytes.now ≤ 65536 }
+{
+    assert!(rt; is_cut(bytes));
+    decode_record(alloc, bytes)
+}
+
+fn encoded(alloc: Global, rec: &RedoRec, bytes: &[u8]) -> Result<Vec<u8>, Fail>
+    requires spelled { bytes.now ≡ record_bytes rec.now }
+    requires short { length bytes.now ≤ 65536 }
+{
+    match encode_record(alloc, rec) {
+        Ok(again) => Ok(again),
+        Err(_) => Err(Fail::from("no memory")),
+    }
+}
+
+// A record of one vector, at SCN 5.
+fn record_of(alloc: Global, vector: &[u8]) -> Result<Vec<u8>, Fail> {
+    if vector.len() > 1000 {
+        return Err(Fail::from("a short vector"));
+    }
+    let mut bytes = vec![in alloc; 0, 0]?;
+    let size = vector.len() as u16 + 14;
+    bytes.extend_from_slice(&size.to_be_bytes())?;
+    bytes.extend_from_slice(&[0, 0, 0, 0, 0, 0, 0, 5, 0, 1])?;
+    bytes.extend_from_slice(vector)?;
+    Ok(bytes)
+}
+
+#[test]
+fn the_dictionary_of_a_first_log(rt: HostRuntime) -> Result<(), Fail> {
+    let rec = decoded(&rt, rt.alloc(), &DICTIONARY)?;
+    assert_eq!(rt; rec.scn, 100);
+    let [Vector::Table(table), Vector::DictEnd] = rec.vectors.items() else {
+        return Err(Fail::from("a table, and the end of the dictionary"));
+    };
+    assert_eq!(rt; table.id, 1);
+    assert_eq!(rt; table.schema.items(), b"T".as_slice());
+    assert_eq!(rt; table.name.items(), b"A".as_slice());
+    let [column] = table.columns.items() else {
+        return Err(Fail::from("one column"));
+    };
+    assert_eq!(rt; column.name.items(), b"ID".as_slice());
+    assert_eq!(rt; column.kind, Kind::Number);
+    assert_eq!(rt; column.nullable, false);
+    let [primary] = table.keys.items() else {
+        return Err(Fail::from("one key"));
+    };
+    assert_eq!(rt; primary.items(), [0].as_slice());
+    Ok(())
+}
+
+#[test]
+fn the_insert_and_the_commit_of_a_first_log(rt: HostRuntime) -> Result<(), Fail> {
+    let rec = decoded(&rt, rt.alloc(), &INSERT)?;
+    assert_eq!(rt; rec.scn, 101);
+    let [Vector::Start(xid), Vector::Change(change)] = rec.vectors.items() else {
+        return Err(Fail::from("a start and a change"));
+    };
+    assert_eq!(rt; *xid, XID);
+    assert_eq!(rt; change.xid, XID);
+    assert_eq!(rt; change.op, Op::Insert);
+    assert_eq!(rt; change.table, 1);
+    assert!(rt; change.old.cells().is_empty());
+    let [(column, Value::Number(number))] = change.new.cells() else {
+        return Err(Fail::from("one number"));
+    };
+    assert_eq!(rt; *column, 0);
+    assert_eq!(rt; *number, 7);
+    let rec = decoded(&rt, rt.alloc(), &COMMIT)?;
+    assert_eq!(rt; rec.scn, 102);
+    let [Vector::Commit(xid)] = rec.vectors.items() else {
+        return Err(Fail::from("a commit"));
+    };
+    assert_eq!(rt; *xid, XID);
+    Ok(())
+}
+
+// START and INSERT with a number and a text of 501 bytes: 50 bytes stand before the text's length.
+#[test]
+fn a_text_of_501_bytes_is_refused_at_its_length(rt: HostRuntime) -> Result<(), Fail> {
+    let mut bytes = vec![in rt.alloc();
+        0, 0, 2, 0x29, 0, 0, 0, 0, 0, 0, 0, 101, 0, 2, 1, 0, 1, 0, 1, 0, 0, 0, 1,
+    ]?;
+    bytes.extend_from_slice(&[2, 0, 1, 0, 1, 0, 0, 0, 1, 0, 0, 0, 1, 0, 2])?;
+    bytes.extend_from_slice(&[0, 1, 0, 0, 0, 0, 0, 0, 0, 1, 1, 2, 1, 0xf5])?;
+    let text = vec![in rt.alloc(); b'x'; 501]?;
+    bytes.extend_from_slice(&text)?;
+    let found = decoded(&rt, rt.alloc(), &bytes);
+    assert!(rt;
+        matches!(
+            found,
+            Err(DecodeFault::Vector {
+                fault: VecFault::Size,
+                place: 50
+            })
+        ),
+        "{found:?}"
+    );
+    Ok(())
+}
+
+#[test]
+fn each_kind_of_vector_comes_back(rt: HostRuntime) -> Result<(), Fail> {
+    let cases: [&[u8]; 8] = [
+        &[1, 0, 1, 0, 2, 0, 0, 0, 3],
+        &[
+            2, 0, 1, 0, 2, 0, 0, 0, 3, 0, 0, 0, 9, 0, 2, 0, 0, 31, 1, 255, 255, 255, 255, 255, 255,
+            255, 255,
+        ],
+        &[
+            3, 0, 1, 0, 2, 0, 0, 0, 3, 0, 0, 0, 9, 1, 4, 2, 0, 2, 0xc3, 0xa4, 1, 5, 3, 0, 1, 0xff,
+        ],
+        &[4, 0, 1, 0, 2, 0, 0, 0, 3, 0, 0, 0, 9, 1, 0, 0, 0],
+        &[5, 255, 255, 0, 2, 0, 0, 0, 3],
+        &[7, 0, 1, 0, 2, 255, 255, 255, 255],
+        &[
+            8, 0, 0, 0, 1, 1, 65, 1, 66, 2, 1, 67, 2, 1, 0xf4, 1, 1, 68, 3, 0, 1, 0, 2, 0, 1, 1, 1,
+            1,
+        ],
+        &[9],
+    ];
+    for vector in cases {
+        let bytes = record_of(rt.alloc(), vector)?;
+        let rec = decoded(&rt, rt.alloc(), &bytes)?;
+        let Ok(copy) = rec.copy() else {
+            return Err(Fail::from("no memory"));
+        };
+        let again = encoded(rt.alloc(), &copy, &bytes)?;
+        assert_eq!(rt; again.as_slice(), bytes.as_slice());
+    }
+    Ok(())
+}
