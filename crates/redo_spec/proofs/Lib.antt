@@ -1,0 +1,5 @@
+pub mod FoldLaws
+pub mod LockLaws
+pub mod EffectLaws
+pub mod StandingLaws
+pub mod LogLaws

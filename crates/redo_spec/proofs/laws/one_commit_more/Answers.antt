@@ -1,0 +1,5 @@
+use Rattle.redo_spec.proofs.FoldLaws.{tables_at-next}
+use Rattle.redo_spec.proofs.laws.one_commit_more.Goals as goal
+
+pub returns : goal.returns
+returns c = tables_at-next

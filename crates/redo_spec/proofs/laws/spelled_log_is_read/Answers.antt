@@ -1,0 +1,5 @@
+use Rattle.redo_spec.proofs.LogLaws.{log_is_read}
+use Rattle.redo_spec.proofs.laws.spelled_log_is_read.Goals as goal
+
+pub returns : goal.returns
+returns c = log_is_read
