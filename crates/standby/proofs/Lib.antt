@@ -1,0 +1,13 @@
+mod Appending
+mod Fronts
+mod Digits
+mod Admit
+mod Inserts
+mod Folds
+mod Checks
+mod ReadBack
+mod InRange
+mod FoldText
+mod OnlyLog
+mod Prints
+mod SpelledLog

@@ -1,0 +1,26 @@
+//! The top calls of the standby: a command, given by its words, is done over five devices.
+//!
+//! Begin with `still.rt`, the call, and `specs/Answers.antt`, the table of its answers.
+#![tactic(auto)]
+
+mod command;
+mod ended;
+mod fetch;
+mod fields;
+mod fold;
+mod folding;
+mod form;
+mod number_log;
+mod output;
+mod printing;
+mod reading;
+mod say;
+mod sorting;
+mod spelling;
+mod still;
+#[cfg(test)]
+mod tests;
+mod words;
+
+pub use ended::Ended;
+pub use still::sqlapply_still;

@@ -1,0 +1,87 @@
+//! The top call that waits for nobody.
+//!
+//! The table of its answers, `specs/Answers.antt`, has a clause for each row.
+//! So far `fold` alone is built; `run`, `mine` and `load` are answered NotBuilt.
+ghost use Rattle.std.specs.Prelude.{◌≡◌, ◌≤◌, ◌↔◌};
+ghost use Rattle.rl_ports.specs.Faults.{Rose};
+ghost use Rattle.standby.specs.Command.{command_of};
+ghost use Rattle.standby.specs.declared.command.Command.TheVariants.{Wrong};
+ghost use Rattle.standby.specs.Answers.{Comes, FoldsWhole, IsNotBuilt, IsArchiveFault, IsSinkFault, SaysFault, fault_word};
+ghost use Rattle.standby.specs.Devices.{ComeBack};
+
+use crate::command::Command;
+use crate::ended::Ended;
+use crate::fold::fold;
+use crate::say::refuse;
+use crate::words::command;
+use rl_base::Status;
+use rl_ports::{Archive, Keeper, Sink, Source, Spill};
+use rl_value::Bytes;
+use std::alloc::Global;
+
+/// Does what the words ask, which are those of the command line without the program's name.
+///
+/// All lines go to the sink, and so do the last lines of refusals; one that the sink does not take leaves the status as
+/// it is. The source, the spill store and the keeper are not called by any command that is built so far.
+/// Want of memory may end a fold at any place before its first line.
+pub fn sqlapply_still<I: Source, O: Sink, A: Archive, S: Spill, K: Keeper>(
+    alloc: Global,
+    words: &[Bytes],
+    input: &mut I,
+    out: &mut O,
+    archive: A,
+    spill: S,
+    keeper: K,
+) -> Ended<A, S, K>
+    // Every device comes back.
+    ensures input { input.new ≡ input.old }
+    ensures devices { ComeBack A.logs A.faults archive result.archive spill result.spill keeper result.keeper }
+    ensures sink_count { O.faults out.old ≤ O.faults out.new }
+
+    // Each row of the table of answers. Memory has no cause.
+    ensures comes { Comes result.status }
+    ensures done { result.status ≡ Status.Done →
+        FoldsWhole (command_of words.now) (A.logs archive) (O.written out.old) (O.written out.new) }
+    ensures usage { (result.status ≡ Status.Usage) ↔ (command_of words.now ≡ Wrong) }
+    ensures not_built { IsNotBuilt (command_of words.now) (A.logs archive) result.status }
+    ensures archive_fault { result.status ≡ Status.ArchiveFault →
+        IsArchiveFault (command_of words.now) (Rose (A.faults archive) (A.faults result.archive)) }
+    ensures sink_fault { result.status ≡ Status.SinkFault →
+        IsSinkFault (command_of words.now) (A.logs archive) (O.written out.old) (O.written out.new)
+        (Rose (O.faults out.old) (O.faults out.new)) }
+
+    // A status that ends the command at once is named in its one line, as far as the sink takes it.
+    ensures last_line { SaysFault (fault_word result.status) (O.written out.old) (O.written out.new)
+        (Rose (O.faults out.old) (O.faults out.new)) }
+{
+    match command(words) {
+        Command::Fold(seq) => {
+            let mut archive = archive;
+            let status = fold(alloc, seq, out, &mut archive);
+            Ended {
+                status,
+                archive,
+                spill,
+                keeper,
+            }
+        }
+        Command::Later => {
+            refuse(out, b"FAULT NOTBUILT\n");
+            Ended {
+                status: Status::NotBuilt,
+                archive,
+                spill,
+                keeper,
+            }
+        }
+        Command::Wrong => {
+            refuse(out, b"FAULT USAGE\n");
+            Ended {
+                status: Status::Usage,
+                archive,
+                spill,
+                keeper,
+            }
+        }
+    }
+}

@@ -1,0 +1,315 @@
+//! Whole commands over small devices: the first log, logs in no such form, all kinds of words, devices that fail.
+//!
+//! Expected lines and statuses come from the formats and the table of answers (docs/FORMATS.md, README.md).
+ghost use Rattle.std.specs.Prelude.{None, Some, false, refl};
+
+use crate::still::sqlapply_still;
+use rl_ports::{Archive, Batch, Failed, Keeper, Pair, PortFault, Sink, Source, Spill};
+use rl_value::Bytes;
+use std::alloc::{AllocError, Global};
+use std::process::Abort;
+use std::test::Fail;
+
+/// The first log: T.A with one number column ID, and a transaction that inserts 7.
+const LOG: [u8; 146] = [
+    0x53, 0x52, 0x4c, 0x31, 0, 1, 0, 1, 0, 0, 0, 9, 0, 0, 0, 1, 0, 0, 0, 0, 0, 0, 0, 0x64, 0, 0, 0,
+    0, 0, 0, 0, 0xc8, 0, 0, 0, 3, 0, 0, 0, 0, 0, 0, 0, 0x23, 0, 0, 0, 0, 0, 0, 0, 0x64, 0, 2, 8, 0,
+    0, 0, 1, 1, 0x54, 1, 0x41, 1, 2, 0x49, 0x44, 1, 0, 0, 0, 1, 0, 0, 9, 0, 0, 0, 0x30, 0, 0, 0, 0,
+    0, 0, 0, 0x65, 0, 2, 1, 0, 1, 0, 2, 0, 0, 0, 3, 2, 0, 1, 0, 2, 0, 0, 0, 3, 0, 0, 0, 1, 0, 1, 0,
+    1, 0, 0, 0, 0, 0, 0, 0, 7, 0, 0, 0, 0x17, 0, 0, 0, 0, 0, 0, 0, 0x66, 0, 1, 6, 0, 1, 0, 2, 0, 0,
+    0, 3,
+];
+
+/// Where the kind of the last vector stands.
+const LAST_KIND: usize = 137;
+
+const LINES: &str = "APPLIED_SCN 102\nTABLE T.A 1\nROW 7\nEND 102 1 DRAINED\n";
+
+/// What the archive has under sequence 1. It has nothing under any other.
+#[derive(Clone, Copy, Debug, PartialEq, Eq)]
+enum Held {
+    First,
+    /// The first log, whose last vector is a ROLLBACK.
+    RolledBack,
+    /// The first log without its last byte.
+    CutShort,
+    /// The first log, of which a length of 4,096 is told.
+    SaidLonger,
+    /// Each call fails.
+    Failing,
+}
+
+/// An archive of at most one log. It tells nothing.
+#[derive(Drop)]
+struct Shelf {
+    held: Held,
+    bytes: Vec<u8>,
+    faults: u64,
+}
+
+impl Shelf {
+    fn of(alloc: Global, held: Held) -> Result<Shelf, AllocError> {
+        let mut log = LOG;
+        if held == Held::RolledBack {
+            log[LAST_KIND] = 7;
+        }
+        let size = if held == Held::CutShort { 145 } else { 146 };
+        Ok(Shelf {
+            held,
+            bytes: Vec::from_slice(alloc, &log[..size])?,
+            faults: 0,
+        })
+    }
+}
+
+impl Archive for Shelf {
+    ghost tells = { false };
+
+    ghost logs = { λ _. None };
+
+    ghost faults = { λ shelf. shelf.faults };
+
+    ghost telling = { λ _. refl };
+
+    fn length(&mut self, seq: u32) -> Result<Option<u64>, Failed> {
+        match self.held {
+            Held::Failing => {
+                self.faults = self.faults.saturating_add(1);
+                Err(Failed)
+            }
+            Held::SaidLonger => Ok(Some(4096)),
+            _ if seq == 1 => Ok(Some(self.bytes.len() as u64)),
+            _ => Ok(None),
+        }
+    }
+
+    fn read(&mut self, _seq: u32, at: u64, into: &mut [u8]) -> Result<usize, Failed> {
+        if at >= self.bytes.len() as u64 {
+            return Ok(0);
+        }
+        let rest = &self.bytes[at as usize..];
+        let count = rest.len().min(into.len());
+        into[..count].copy_from_slice(&rest[..count]);
+        Ok(count)
+    }
+}
+
+/// A sink with room for so many bytes. It tells what was written.
+#[derive(Drop)]
+struct Paper {
+    bytes: Vec<u8>,
+    room: usize,
+    faults: u64,
+}
+
+impl Sink for Paper {
+    ghost written = { λ paper. Some paper.bytes.items };
+
+    ghost faults = { λ paper. paper.faults };
+
+    fn write(&mut self, from: &[u8]) -> Result<usize, Failed> {
+        let count = from.len().min(self.room);
+        if count > 0 && self.bytes.extend_from_slice(&from[..count]).is_ok() {
+            self.room -= count;
+            return Ok(count);
+        }
+        self.faults = self.faults.saturating_add(1);
+        Err(Failed)
+    }
+}
+
+/// A source, a spill store and a keeper that no command calls so far.
+#[derive(Drop)]
+struct Unused;
+
+impl Source for Unused {
+    ghost left = { λ _. None };
+
+    ghost faults = { λ _. 0 };
+
+    fn read(&mut self, _into: &mut [u8]) -> Result<usize, Failed> {
+        Ok(0)
+    }
+}
+
+impl Spill for Unused {
+    ghost tells = { false };
+
+    ghost chunks = { λ _. None };
+
+    ghost faults = { λ _. 0 };
+
+    ghost telling = { λ _. refl };
+
+    fn put(&mut self, _id: u64, _bytes: &[u8]) -> Result<(), PortFault> {
+        Err(PortFault::Memory)
+    }
+
+    fn get(&mut self, _id: u64, _into: &mut Vec<u8>) -> Result<(), PortFault> {
+        Err(PortFault::Memory)
+    }
+
+    fn drop_id(&mut self, _id: u64) -> Result<(), Failed> {
+        Ok(())
+    }
+
+    fn clear(&mut self) -> Result<(), Failed> {
+        Ok(())
+    }
+}
+
+impl Keeper for Unused {
+    ghost tells = { false };
+
+    ghost holds = { λ _. None };
+
+    ghost faults = { λ _. 0 };
+
+    ghost telling = { λ _. refl };
+
+    ghost lawful = { λ _. tt };
+
+    fn commit(&mut self, _batch: &Batch) -> Result<(), PortFault> {
+        Err(PortFault::Memory)
+    }
+
+    fn after(&mut self, _area: u8, _key: &[u8]) -> Result<Option<Pair>, PortFault> {
+        Ok(None)
+    }
+}
+
+/// A command, what it finds, and what must come: the status's code and all that is written.
+#[derive(Clone, Copy)]
+struct Case {
+    words: &'static [&'static str],
+    held: Held,
+    room: usize,
+    code: u8,
+    text: &'static str,
+}
+
+/// A case whose sink has room for all.
+fn with_room(words: &'static [&'static str], held: Held, code: u8, text: &'static str) -> Case {
+    Case {
+        words,
+        held,
+        room: 1000,
+        code,
+        text,
+    }
+}
+
+fn check(rt: &impl Abort, alloc: Global, case: &Case) -> Result<(), Fail> {
+    let mut words = Vec::new(alloc);
+    for word in case.words {
+        words.push(Bytes::of(Vec::from_slice(alloc, word.as_bytes())?))?;
+    }
+    let mut out = Paper {
+        bytes: Vec::new(alloc),
+        room: case.room,
+        faults: 0,
+    };
+    let shelf = Shelf::of(alloc, case.held)?;
+    let ended = sqlapply_still(alloc, &words, &mut Unused, &mut out, shelf, Unused, Unused);
+    let found = ended.status.code();
+    assert_eq!(rt;
+        found,
+        case.code,
+        "words {:?}, log {:?}",
+        case.words, case.held
+    );
+    assert_eq!(rt;
+        out.bytes.as_slice(),
+        case.text.as_bytes(),
+        "words {:?}, log {:?}",
+        case.words,
+        case.held
+    );
+    Ok(())
+}
+
+#[test]
+fn a_fold_prints_a_log_in_first_form_and_no_other(rt: HostRuntime) -> Result<(), Fail> {
+    let cases = [
+        with_room(&["fold", "1"], Held::First, 0, LINES),
+        with_room(&["fold", "1"], Held::RolledBack, 17, "FAULT NOTBUILT\n"),
+        with_room(&["fold", "1"], Held::CutShort, 17, "FAULT NOTBUILT\n"),
+        with_room(&["fold", "2"], Held::First, 17, "FAULT NOTBUILT\n"),
+        // What comes before a read of 0 bytes is the log.
+        with_room(&["fold", "1"], Held::SaidLonger, 0, LINES),
+        // Its header has another sequence.
+        with_room(&["fold", "2"], Held::SaidLonger, 17, "FAULT NOTBUILT\n"),
+    ];
+    for case in &cases {
+        check(&rt, rt.alloc(), case)?;
+    }
+    Ok(())
+}
+
+#[test]
+fn words_that_are_no_command_are_refused(rt: HostRuntime) -> Result<(), Fail> {
+    let cases: [&'static [&'static str]; 8] = [
+        &[],
+        &["fold"],
+        &["fold", "0"],
+        &["fold", "01"],
+        &["fold", "4294967296"],
+        &["fold", "1", "2"],
+        &["fold", "+1"],
+        &["Fold", "1"],
+    ];
+    for words in cases {
+        check(
+            &rt,
+            rt.alloc(),
+            &with_room(words, Held::First, 2, "FAULT USAGE\n"),
+        )?;
+    }
+    Ok(())
+}
+
+#[test]
+fn later_commands_are_not_built(rt: HostRuntime) -> Result<(), Fail> {
+    let cases: [&'static [&'static str]; 4] = [
+        &["run"],
+        &["mine", "1", "1"],
+        &["load", "0", "1"],
+        &["run", "x"],
+    ];
+    for words in cases {
+        check(
+            &rt,
+            rt.alloc(),
+            &with_room(words, Held::First, 17, "FAULT NOTBUILT\n"),
+        )?;
+    }
+    Ok(())
+}
+
+#[test]
+fn a_device_that_fails_is_named(rt: HostRuntime) -> Result<(), Fail> {
+    let cases = [
+        with_room(&["fold", "1"], Held::Failing, 3, "FAULT ARCHIVE\n"),
+        // The words go before the archive.
+        with_room(&["fold", "0"], Held::Failing, 2, "FAULT USAGE\n"),
+        Case {
+            words: &["fold", "1"],
+            held: Held::First,
+            room: 20,
+            code: 5,
+            text: "APPLIED_SCN 102\nTABL",
+        },
+        // A last line that is refused leaves the status as it is.
+        Case {
+            words: &["fold", "1"],
+            held: Held::Failing,
+            room: 5,
+            code: 3,
+            text: "FAULT",
+        },
+    ];
+    for case in &cases {
+        check(&rt, rt.alloc(), case)?;
+    }
+    Ok(())
+}
