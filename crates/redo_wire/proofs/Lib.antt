@@ -1,0 +1,4 @@
+pub mod CutLaws
+pub mod FirstLaws
+pub mod RecordLaws
+pub mod StreamLaws

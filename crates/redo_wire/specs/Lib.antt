@@ -1,0 +1,3 @@
+pub mod Records
+pub mod Stream
+pub mod Taken

@@ -1,0 +1,149 @@
+//! Cuts a log's bytes into redo records, in whatever pieces they come.
+//!
+//! The first fault in byte order is the one that is answered, and after it nothing more is given. Bytes of a
+//! record that is not whole wait for the next piece: 65,535 of them at most. What a piece costs is linear in its
+//! bytes: waiting bytes are moved only when a record has ended in the piece.
+ghost use Rattle.std.specs.Prelude.{◌≡◌, ◌+◌, ◌-◌, ◌*◌, ◌≤◌, ◌<◌, ◌^◌, length, drop, IfOk, OnOk, OnErr};
+ghost use Rattle.redo_wire.specs.Records.{AreFramed};
+ghost use Rattle.redo_wire.specs.Stream.{begun, given, fed, left_after, end_fault};
+
+use crate::cutting::{Place, Taken, taken_off};
+use crate::raw::{Fed, Raws};
+use redo_spec::Header;
+use rl_value::{CutFault, NoMemory};
+use std::alloc::Global;
+use std::marker::Model;
+
+/// The bytes of one log as they come, behind its header.
+#[derive(Debug, Drop)]
+pub struct Cutter {
+    head: Header,
+    place: Place,
+    left: Vec<u8>,
+    over: bool,
+}
+
+impl Model for Cutter {
+    ghost use Rattle.redo_wire.specs.Stream.{Stream, IsReady};
+
+    ghost Value = { Stream };
+
+    ghost view = { λ c. record { head = c.head; place = c.place; left = c.left.items; over = c.over } };
+
+    ghost invariant = { λ c. IsReady c.head c.place };
+}
+
+// Takes so many bytes from the front, and after a fault all. After a refusal they are as they were.
+fn keep(bytes: &mut Vec<u8>, used: usize, cause: Option<CutFault>) -> Result<(), NoMemory>
+    requires { used ≤ length bytes.old.items }
+    ensures ok { OnOk result (bytes.new.items ≡ left_after cause (drop used bytes.old.items)) }
+    ensures err { OnErr result (bytes.new.items ≡ bytes.old.items) }
+{
+    if cause.is_some() {
+        bytes.clear();
+        return Ok(());
+    }
+    if used == 0 {
+        return Ok(());
+    }
+    match Vec::from_slice(*bytes.allocator(), &bytes[used..]) {
+        Ok(rest) => {
+            *bytes = rest;
+            Ok(())
+        }
+        Err(_) => Err(NoMemory),
+    }
+}
+
+impl Cutter {
+    /// A cutter of the log with this header. The next record has the number `rec` over all logs, stands at the
+    /// offset `at` in this log, and `done` records of this log were cut before. It takes no memory.
+    pub fn new(alloc: Global, head: Header, rec: u64, at: u64, done: u32) -> Cutter
+        requires done { done ≤ head.count }
+        requires at { at < 2 ^ 63 }
+        requires rec { rec + (head.count - done) < 2 ^ 64 }
+        ensures { result ≡ begun head rec at done }
+    {
+        Cutter {
+            head,
+            place: Place { rec, at, done },
+            left: Vec::new(alloc),
+            over: false,
+        }
+    }
+
+    /// Takes the next bytes of the log, and gives the records that they complete, and the first fault. After a
+    /// fault it gives nothing more. The cost is linear in the bytes of the piece and of the records that it completes.
+    pub fn feed(&mut self, piece: &[u8]) -> Result<Fed, NoMemory>
+        ensures raws { IfOk result (λ x. x.raws ≡ (given self.old piece.now).raws) }
+        ensures cause { IfOk result (λ x. x.cause ≡ (given self.old piece.now).cause) }
+        // Records that stand one behind the other, each whole.
+        ensures framed { IfOk result (λ x. AreFramed self.old.head self.old.place x.raws) }
+        ensures next { OnOk result (self.new ≡ fed self.old piece.now) }
+        ensures unchanged { OnErr result (self.new ≡ self.old) }
+    {
+        let alloc = *self.left.allocator();
+        if self.over {
+            return Ok(Fed {
+                raws: Raws::of(Vec::new(alloc)),
+                cause: None,
+            });
+        }
+        let waiting = self.left.len();
+        if self.left.extend_from_slice(piece).is_err() {
+            return Err(NoMemory);
+        }
+        match taken_off(alloc, self.head, self.place, &self.left) {
+            Ok(
+                Taken {
+                    raws,
+                    place,
+                    used,
+                    cause,
+                },
+            ) => {
+                if keep(&mut self.left, used, cause).is_err() {
+                    self.left.truncate(waiting);
+                    return Err(NoMemory);
+                }
+                self.place = place;
+                self.over = cause.is_some();
+                Ok(Fed {
+                    raws: Raws::of(raws),
+                    cause,
+                })
+            }
+            Err(NoMemory) => {
+                self.left.truncate(waiting);
+                Err(NoMemory)
+            }
+        }
+    }
+
+    /// What the end of the log's bytes tells: Truncated where they end before all of its records were cut, unless
+    /// a fault was given before.
+    pub fn finish(&self) -> Option<CutFault>
+        ensures { result ≡ end_fault self.now }
+    {
+        if self.over || self.place.done == self.head.count {
+            None
+        } else {
+            Some(CutFault::Truncated)
+        }
+    }
+
+    /// A cutter that goes on from here by itself.
+    pub fn copy(&self) -> Result<Cutter, NoMemory>
+        ensures { IfOk result (λ cutter. cutter ≡ self.now) }
+    {
+        match Vec::from_slice(*self.left.allocator(), self.left.as_slice()) {
+            Ok(left) => Ok(Cutter {
+                head: self.head,
+                place: self.place,
+                left,
+                over: self.over,
+            }),
+            Err(_) => Err(NoMemory),
+        }
+    }
+}
