@@ -1,2 +1,4 @@
 pub mod Texts
 pub mod Moves
+pub mod Literals
+pub mod LiteralLaws

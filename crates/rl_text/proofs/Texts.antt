@@ -1,9 +1,9 @@
 -- Lemmas on printed texts: digits hold no line end, and values with a byte between them.
-use Rattle.std.proofs.Common.{◌≡◌, ◌≢◌, ℕ, ◌<◌, ◌≤◌, ◌^◌, List, [], ◌∷◌, ◌++◌, Bool, true, false, ◌&&◌, not, refl, sym, ap, arith, append-nil, suc}
+use Rattle.std.proofs.Common.{◌≡◌, ℕ, ◌<◌, ◌^◌, List, [], ◌∷◌, ◌++◌, Bool, true, false, ◌&&◌, refl, ap, arith, append-nil, suc}
 use lib.Signed.{mag}
 use Rattle.std.specs.Prelude.{map}
 use Rattle.std.specs.List.{join_with_byte}
-use Rattle.std.specs.Prelude.{◌==◌, IsTrue, ℤ, pos, negsuc}
+use Rattle.std.specs.Prelude.{IsTrue, ℤ, pos, negsuc}
 use Rattle.std.specs.Fmt.{decimal, signed_decimal}
 use Rattle.std.specs.Str.Parse.{AllDigits}
 use Rattle.std.proofs.lemmas.Fmt.{decimal_is_IsNumeral}
@@ -12,7 +12,7 @@ use Rattle.std.proofs.lemmas.Bool.Decides.{nat_tests}
 use Rattle.rl_base.specs.Lines.{is_line, is_inside}
 use Rattle.rl_value.specs.Literal.{literal}
 use Rattle.rl_value.specs.declared.value.Value.{Value}
-use Rattle.rl_text.specs.Joined.{joined, followed}
+use Rattle.rl_text.specs.Joined.{joined}
 
 both : (a b : Bool) → IsTrue a → IsTrue b → IsTrue (a && b)
 both true b p q = q

@@ -4,9 +4,11 @@
 mod input;
 mod literal;
 mod output;
+mod reading;
 #[cfg(test)]
 mod tests;
 
 pub use input::{ReadFault, read_all};
 pub use literal::{put_key, put_row, put_value, put_xid};
 pub use output::put_line;
+pub use reading::read_value;

@@ -3,10 +3,11 @@
 //! A call puts all of it or nothing: the text is made beside the line and then put there in one piece.
 //! How each is spelled: specs/Literal.antt of rl_value.
 
-ghost use Rattle.std.specs.Prelude.{◌≡◌, ◌++◌, ◌∷◌, [], ◌<◌, ◌≤◌, IsTrue, OnOk, OnErr};
+ghost use Rattle.std.specs.Prelude.{◌≡◌, ◌++◌, ◌∷◌, [], ◌<◌, ◌≤◌, IsTrue, OnOk, OnErr, Some};
 ghost use Rattle.std.specs.List.{list_all, flat_map};
 ghost use Rattle.std.specs.Fmt.{decimal, signed_decimal};
-ghost use Rattle.rl_value.specs.Literal.{literal, hex, hex_digit, quoted, quoted_byte, in_hex, is_printed, text_literal, row_text, key_text, xid_text, IsLiteralOf};
+ghost use Rattle.rl_value.specs.Literal.{literal, hex, hex_digit, quoted, quoted_byte, in_hex, is_printed, text_literal, row_text, key_text, xid_text, AreBytes, IsLiteralOf};
+ghost use Rattle.rl_value.specs.LiteralValue.{value_of_literal};
 ghost use Rattle.rl_text.specs.Joined.{joined, followed};
 
 use rl_base::Line;
@@ -14,20 +15,23 @@ use rl_value::{Key, NoMemory, Row, Value, Xid};
 use std::alloc::Global;
 
 /// The letter before a text in hexadecimal.
-const TEXT_LETTER: u8 = b'U';
+pub const TEXT_LETTER: u8 = b'U';
 
 /// The letter before a raw value in hexadecimal.
-const RAW_LETTER: u8 = b'X';
+pub const RAW_LETTER: u8 = b'X';
 
-const QUOTE: u8 = b'\'';
+pub const QUOTE: u8 = b'\'';
 
 const DELETE: u8 = 0x7F;
 
-/// Puts the literal of a value at the end of a line..
+/// Puts the literal of a value at the end of a line. It is read as that value.
 pub fn put_value(alloc: Global, line: &mut Line, value: &Value) -> Result<(), NoMemory>
     ensures put { OnOk result (line.new ≡ line.old ++ literal value.now) }
     ensures err { OnErr result (line.new ≡ line.old) }
+    ensures literal { IsLiteralOf value.now (literal value.now) }
+    ensures read { value_of_literal (literal value.now) ≡ Some value.now }
 {
+    prints_a_literal(value);
     let mut text = Line::new(alloc);
     add_value(alloc, &mut text, value)?;
     line.extend(text.items())
@@ -201,8 +205,35 @@ fn all_printed(bytes: &[u8]) -> bool
     bytes.iter().all(|byte| may_be_printed(*byte))
 }
 
-fn may_be_printed(byte: u8) -> bool
+pub fn may_be_printed(byte: u8) -> bool
     ensures { result ≡ is_printed byte }
 {
     byte >= b' ' && byte != DELETE
 }
+
+/// What is printed for a value is a literal of it. It does nothing.
+#[tactic(auto, using(crate::proofs::LiteralLaws::printed))]
+fn prints_a_literal(value: &Value)
+    ensures { IsLiteralOf value.now (literal value.now) }
+{
+    match value {
+        Value::Null => {}
+        Value::Number(number) => {
+            // The range of a number behind a reference is known once it is read.
+            let _range = *number;
+            return;
+        }
+        Value::Text(text) => {
+            hold_bytes(text.bytes());
+            return;
+        }
+        Value::Raw(raw) => {
+            hold_bytes(raw.bytes());
+            return;
+        }
+    }
+}
+
+fn hold_bytes(_bytes: &[u8])
+    ensures { AreBytes _bytes.now }
+{}

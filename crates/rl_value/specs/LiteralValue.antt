@@ -1,6 +1,6 @@
 -- The value of a literal, read from left to right, or none where the bytes are no literal.
--- It is meant to be the value of which the bytes are a literal (IsLiteralOf of Literal.antt), and none where there is no
--- such value. No law shows that so far, and nothing stands on it.
+-- That it is the value of which the bytes are a literal (IsLiteralOf of Literal.antt), and none where there is no
+-- such value, is the law of rl_text's `literals_have_one_value`.
 use Rattle.std.specs.Prelude.{ℕ, ◌+◌, ◌-◌, ◌*◌, List, [], ◌∷◌, length, Bool, true, false, ◌&&◌, ◌==◌, nat_le, if◌then◌else◌, codes, Option, Some, None}
 use Rattle.std.specs.Option.{option_map, option_and_then}
 use Rattle.std.specs.Fmt.{signed_decimal}

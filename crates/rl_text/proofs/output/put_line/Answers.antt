@@ -1,4 +1,3 @@
-use Rattle.std.proofs.Common.{◌∷◌, []}
 use Rattle.rl_text.proofs.Moves.{AppendsFront-longer, AppendsFront-behind, on_err, OnErr-weaker}
 use Rattle.rl_text.proofs.output.put_line.Goals as goal
 
