@@ -1,2 +1,4 @@
 pub mod Calls
 pub mod Devices
+pub mod Keepers
+pub mod Places

@@ -23,7 +23,6 @@ impl Model for Calls {
 }
 
 impl Calls {
-    /// No call yet; those with these numbers, which rise from 1, will fail.
     pub fn of(fails: Vec<u64>) -> Calls
         ensures { result ≡ uncalled fails.items }
     {

@@ -4,7 +4,9 @@
 
 mod archive;
 mod calls;
+mod keeper;
 mod room;
+mod rows;
 mod sink;
 mod source;
 mod spill;
@@ -12,6 +14,7 @@ mod spill;
 mod tests;
 
 pub use archive::{MemArchive, SureArchive};
+pub use keeper::{MemKeeper, SureKeeper};
 pub use sink::MemSink;
 pub use source::{MemSource, SureSource};
 pub use spill::{MemSpill, SureSpill};
