@@ -14,6 +14,7 @@ use crate::rule::{About, RuledTable, TableSeat};
 use crate::steps::{claim, cut, glue, lift, look, lower, release};
 use crate::token::Seat;
 use atomic_table::{Refused, Table};
+use rl_value::NoMemory;
 use std::alloc::{AllocFailed, Global};
 use std::hint;
 use std::marker::Model;
@@ -90,15 +91,17 @@ impl<V: Tagged> TagLock<V> {
         TagLock::told(alloc, value, about)
     }
 
-    /// Gives one part of the seat to a new one, which has seen what the old one has.
-    pub fn split(&self, seat: &mut Seat<V>) -> Seat<V>
+    /// Gives one part of the seat to a new one, which has seen what the old one has. A seat has no bytes, so today
+    /// memory is never wanted; a caller is ready for it all the same.
+    pub fn split(&self, seat: &mut Seat<V>) -> Result<Seat<V>, NoMemory>
         requires lock { seat.old.lock ≡ self.now }
         requires two { 2 ≤ seat.old.parts }
-        ensures kept { seat.new ≡ record seat.old { parts = seat.old.parts - 1 } }
-        ensures given { result ≡ record seat.old { parts = 1 } }
+        ensures kept { IfOk result (λ _. seat.new ≡ record seat.old { parts = seat.old.parts - 1 }) }
+        ensures given { IfOk result (λ given. given ≡ record seat.old { parts = 1 }) }
+        ensures unchanged { IfErr result (λ _. seat.new ≡ seat.old) }
     {
         let base = cut(&self.table, &mut seat.base);
-        Seat { base }
+        Ok(Seat { base })
     }
 
     /// One seat with the parts of both, which has seen the greater of what they have.

@@ -171,7 +171,9 @@ fn crew<R: Threads + Wait + Sync>(
     if count == 0 {
         return seat;
     }
-    let theirs = lock.split(&mut seat);
+    let Ok(theirs) = lock.split(&mut seat) else {
+        return seat;
+    };
     let (theirs, mine) = join(
         rt,
         || -> Seat<Numbers>
@@ -235,9 +237,18 @@ fn crew_of_two<R: Threads + Wait + Sync>(
     if count == 0 {
         return seats;
     }
+    let Ok(counted) = counter.split(&mut seats.counter) else {
+        return seats;
+    };
+    let Ok(noted) = numbers.split(&mut seats.numbers) else {
+        return Seats {
+            counter: counter.join(seats.counter, counted),
+            numbers: seats.numbers,
+        };
+    };
     let theirs = Seats {
-        counter: counter.split(&mut seats.counter),
-        numbers: numbers.split(&mut seats.numbers),
+        counter: counted,
+        numbers: noted,
     };
     let (theirs, mine) = join(
         rt,
@@ -276,7 +287,9 @@ fn two_threads_count_to_two_thousand(rt: HostRuntime) -> Result<(), Fail> {
     let Ok((lock, mut seat)) = TagLock::new(rt.alloc(), Counter::at(7, 0, 0)) else {
         panic!(rt; "no memory")
     };
-    let theirs = lock.split(&mut seat);
+    let Ok(theirs) = lock.split(&mut seat) else {
+        panic!(rt; "no memory")
+    };
     let (mine, theirs) = join(
         &rt,
         || -> Seat<Counter>
@@ -300,7 +313,9 @@ fn a_rank_shows_what_another_seat_gave(rt: HostRuntime) -> Result<(), Fail> {
     let Ok((lock, mut first)) = TagLock::new(rt.alloc(), Counter::at(7, 0, 0)) else {
         panic!(rt; "no memory")
     };
-    let mut second = lock.split(&mut first);
+    let Ok(mut second) = lock.split(&mut first) else {
+        panic!(rt; "no memory")
+    };
     let before = lock.rank(&mut second);
     let first = add_one(&rt, &lock, first);
     let after = lock.rank(&mut second);
