@@ -1,5 +1,6 @@
 use super::*;
 use rl_value::{CutFault, HeadFault};
+use std::alloc::Global;
 use std::test::Fail;
 
 // A first log: its header, then the dictionary, an insert and a commit.
@@ -97,5 +98,44 @@ fn pieces_of_each_length_give_the_same_records(rt: HostRuntime) -> Result<(), Fa
         assert_eq!(rt; bytes.as_slice(), &LOG[40..]);
         assert_eq!(rt; cutter.finish(), None);
     }
+    Ok(())
+}
+
+// The number, the end and the count of each record.
+fn places(alloc: Global, raws: &Raws) -> Result<Vec<(u64, u64, u32)>, Fail> {
+    let mut places = Vec::new(alloc);
+    for raw in raws.items() {
+        places.push((raw.rec, raw.end, raw.done))?;
+    }
+    Ok(places)
+}
+
+#[test]
+fn a_copy_has_the_same_records_and_goes_on(rt: HostRuntime) -> Result<(), Fail> {
+    let alloc = rt.alloc();
+    let mut cutter = Cutter::new(alloc, HEAD, 1, 40, 0);
+    // The first record, and a part of the second.
+    let fed = cutter.feed(&LOG[40..100])?;
+    let first = [(1, 75, 1)];
+    assert_eq!(rt; places(alloc, &fed.raws)?.as_slice(), first.as_slice());
+    let again = fed.copy()?;
+    assert_eq!(rt; places(alloc, &again.raws)?.as_slice(), first.as_slice());
+    assert_eq!(rt; again.cause, None);
+    let raws = again.raws.copy()?;
+    assert_eq!(rt; places(alloc, &raws)?.as_slice(), first.as_slice());
+    for raw in raws.items() {
+        let raw = raw.copy()?;
+        assert_eq!(rt; (raw.rec, raw.end, raw.done, raw.head), (1, 75, 1, HEAD));
+        assert_eq!(rt; raw.bytes.bytes(), &LOG[40..75]);
+    }
+    let mut copy = cutter.copy()?;
+    let others = [(2, 123, 2), (3, 146, 3)];
+    let fed = copy.feed(&LOG[100..])?;
+    assert_eq!(rt; places(alloc, &fed.raws)?.as_slice(), others.as_slice());
+    assert_eq!(rt; copy.finish(), None);
+    // The first one still stands where it was copied.
+    assert_eq!(rt; cutter.finish(), Some(CutFault::Truncated));
+    let fed = cutter.feed(&LOG[100..])?;
+    assert_eq!(rt; places(alloc, &fed.raws)?.as_slice(), others.as_slice());
     Ok(())
 }
