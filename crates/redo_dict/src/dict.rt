@@ -87,9 +87,18 @@ impl Dict {
 
     /// The table of this id. None exactly where no such table was added.
     pub fn def(&self, id: u32) -> Option<&TableRow>
-        ensures { option_copied result ≡ table_of self.now.tables id }
+        ensures found { option_copied result ≡ table_of self.now.tables id }
+        ensures rising { IsTrue (ids_rise 0 self.now.tables) }
     {
         table_at(self.tables.as_slice(), id)
+    }
+
+    /// Its tables, in rising order of their ids.
+    pub fn tables(&self) -> &[TableRow]
+        ensures rise { IsTrue (ids_rise 0 self.now.tables) }
+        ensures same { result.now ≡ self.now.tables }
+    {
+        self.tables.as_slice()
     }
 
     /// Whether the dictionary accepts the change; else the first reason against it. It takes no memory.
