@@ -1,0 +1,11 @@
+mod Ids
+mod OpenList
+mod HoldLaws
+mod Exact
+mod LeastLaws
+mod LockSteps
+mod EntryLaws
+mod TableLaws
+mod CellLaws
+mod KeySetLaws
+mod BeganLaws

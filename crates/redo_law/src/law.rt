@@ -1,0 +1,98 @@
+//! The law of the redo: which record may follow those before it, and which is the first that may not.
+//!
+//! A record is tested as a whole first (the chain of logs, its SCN, COMMIT and ROLLBACK alone), and then vector by vector;
+//! the first cause counts. No change may touch a key that a surviving change of another open transaction touches.
+ghost use Rattle.std.specs.Prelude.{◌≡◌, ◌+◌, ◌<◌, ◌^◌, OnOk, IfOk, IfErr};
+ghost use Rattle.redo_spec.specs.Standing.{Standing, record_after};
+ghost use Rattle.redo_spec.specs.Law.{record_fault, dictionary_left};
+ghost use Rattle.redo_law.specs.Calls.{standing_of, Judges, Leaves, start_rec};
+
+use crate::fault::AdmitFault;
+use crate::start::LawStart;
+use crate::state::State;
+use crate::table::Table;
+use redo_dict::Dict;
+use redo_spec::Header;
+use redo_vec::RedoRec;
+use rl_value::{NoMemory, Xid};
+use std::alloc::Global;
+use std::marker::Model;
+
+/// What the records so far leave for judging the next one.
+#[derive(Drop)]
+pub struct Law {
+    state: State,
+}
+
+impl Model for Law {
+    ghost use Rattle.redo_spec.specs.Standing.{Standing};
+
+    ghost Value = { Standing };
+
+    ghost use Rattle.redo_law.specs.Seen.{seen, IsReady};
+
+    ghost view = { λ l. seen l.state };
+
+    ghost invariant = { λ l. IsReady l.state };
+}
+
+impl Law {
+    /// The law of the records behind this start. Where memory is refused, the start comes back.
+    pub fn new(alloc: Global, start: LawStart) -> Result<Law, (NoMemory, LawStart)>
+        ensures begun { IfOk result (λ law. law ≡ standing_of start) }
+        ensures back { IfErr result (λ refused. refused.1 ≡ start) }
+    {
+        let table = Table::new(alloc);
+        Ok(Law {
+            state: State {
+                alloc,
+                first: start.first,
+                known: start.known,
+                rec: start.rec,
+                head: start.head,
+                scn: start.scn,
+                commit_scn: start.commit_scn,
+                dict: start.dict,
+                table,
+            },
+        })
+    }
+
+    /// Takes the next record of the redo, in a log of this header. After a refusal the law is spent: of its calls only
+    /// `dict` and `into_dict` follow. They have then the tables of the vectors before the refused one.
+    pub fn admit(&mut self, head: &Header, rec: &RedoRec) -> Result<(), AdmitFault>
+        requires { self.old.rec + 1 < 2 ^ 64 }
+        ensures admitted { OnOk result (self.new ≡ record_after (head.now, rec.now) self.old) }
+        ensures counted { OnOk result (self.new.rec ≡ self.old.rec + 1) }
+        ensures exact { Judges (record_fault self.old (head.now, rec.now)) result }
+        ensures left { Leaves (dictionary_left self.old (head.now, rec.now)) self.new.dictionary result }
+    {
+        if let Err(fault) = self.state.admit(head, rec) {
+            // Nothing is said of the transactions any more, so the parts fit each other again without them.
+            self.state.table.clear();
+            return Err(fault);
+        }
+        Ok(())
+    }
+
+    /// The record of the START of the open transaction of this id. None exactly where none is open.
+    pub fn start_of(&self, xid: Xid) -> Option<u64>
+        ensures { result ≡ start_rec xid self.now.active }
+    {
+        self.state.table.start_of(xid)
+    }
+
+    /// The dictionary that the records so far leave.
+    pub fn dict(&self) -> &Dict
+        ensures { result.now ≡ self.now.dictionary }
+    {
+        &self.state.dict
+    }
+
+    /// Gives up the dictionary. It takes no memory.
+    pub fn into_dict(self) -> Dict
+        ensures { result ≡ self.dictionary }
+    {
+        self.state.dict
+    }
+}

@@ -1,0 +1,18 @@
+//! What may follow in the redo: the admission of its records, in order, and the keys that a change touches.
+#![tactic(auto)]
+
+mod conflicts;
+mod fault;
+mod hold;
+mod law;
+mod locks;
+mod start;
+mod state;
+mod survivors;
+mod table;
+mod touching;
+
+pub use fault::AdmitFault;
+pub use law::Law;
+pub use start::LawStart;
+pub use touching::touch;

@@ -1,0 +1,222 @@
+//! The open transactions as they are kept.
+//!
+//! Each stands by the position of its START, so that those of a standing come in order. An id leads to its START, and each
+//! key that is touched to its holder, so that no call walks over the open transactions or their changes.
+ghost use Rattle.std.specs.Prelude.{◌≡◌, ◌++◌, ◌∷◌, [], ◌<◌, ◌≤◌, ◌^◌, length, OnOk, Option, None, ◌&&◌};
+ghost use Rattle.std.specs.BTreeMap as tree;
+ghost use Rattle.rl_value.specs.Order.{key_cmp};
+ghost use Rattle.redo_spec.specs.Locks.{least};
+ghost use Rattle.redo_spec.specs.Standing.{with_open, closed, touching, giving_back};
+ghost use Rattle.std.specs.List.{list_any};
+ghost use Rattle.std.specs.Option.{option_map};
+ghost use Rattle.redo_law.specs.Shown.{shown_pair};
+ghost use Rattle.rl_value.specs.Outcome.{is_empty};
+ghost use Rattle.redo_spec.specs.History.{same_xid};
+ghost use Rattle.redo_law.specs.Calls.{open_of, start_rec};
+ghost use Rattle.redo_law.specs.Held.{taken, kept_out};
+ghost use Rattle.redo_law.specs.OpenTable.{IsTable, BeganBefore, GivesBack, txns_of, changes_of};
+
+use crate::hold::Hold;
+use crate::locks::{free_changes, free_keys_of, least_blocked, take_keys};
+use crate::survivors::{Open, Survivors, TouchedKeys};
+use rl_value::{Key, NoMemory, Pos, Xid};
+use std::alloc::Global;
+use std::collections::BTreeMap;
+
+/// The open transactions by their START, the START of each id, the holder of each key, and how many surviving changes
+/// there are.
+#[derive(Drop)]
+pub struct Table {
+    pub xids: BTreeMap<Xid, Pos>,
+    pub txns: BTreeMap<Pos, Open>,
+    pub locks: BTreeMap<Key, Hold>,
+    pub survivors: u64,
+}
+
+impl Table {
+    pub fn new(alloc: Global) -> Table
+        ensures table { IsTable result }
+        ensures empty { txns_of result ≡ [] }
+    {
+        Table {
+            xids: BTreeMap::new(alloc),
+            txns: BTreeMap::new(alloc),
+            locks: BTreeMap::new(alloc),
+            survivors: 0,
+        }
+    }
+
+    /// A transaction of this id is open.
+    pub fn is_open(&self, xid: Xid) -> bool
+        requires { IsTable self.now }
+        ensures { result ≡ list_any (λ t. same_xid t.xid xid) (txns_of self.now) }
+    {
+        self.xids.contains_key(&xid)
+    }
+
+    /// The record of the START of the open transaction of this id.
+    pub fn start_of(&self, xid: Xid) -> Option<u64>
+        requires { IsTable self.now }
+        ensures { result ≡ start_rec xid (txns_of self.now) }
+    {
+        match self.xids.get(&xid) {
+            None => None,
+            Some(start) => Some(start.rec),
+        }
+    }
+
+    /// The open transaction of this id has no surviving change.
+    pub fn nothing_survives(&self, xid: Xid) -> bool
+        requires { IsTable self.now }
+        ensures { result ≡ list_any (λ t. same_xid t.xid xid && is_empty t.keys) (txns_of self.now) }
+    {
+        let Some(start) = self.xids.get(&xid) else {
+            return false;
+        };
+        let Some(open) = self.txns.get(start) else {
+            return false;
+        };
+        has_none(open.keys.items())
+    }
+
+    /// How many surviving changes there are.
+    pub fn count(&self) -> u64
+        requires { IsTable self.now }
+        ensures { result ≡ changes_of (txns_of self.now) }
+    {
+        self.survivors
+    }
+
+    /// The least of these keys that another open transaction than this one holds, with its holder.
+    pub fn lock_on<'k>(&self, xid: Xid, keys: &'k [Key]) -> Option<(&'k Key, Xid)>
+        requires { IsTable self.now }
+        ensures { option_map shown_pair result ≡ least (kept_out xid keys.now (txns_of self.now)) }
+    {
+        least_blocked(&self.locks, xid, keys)
+    }
+
+    /// Drops all transactions.
+    pub fn clear(&mut self)
+        ensures table { IsTable self.new }
+        ensures empty { txns_of self.new ≡ [] }
+    {
+        self.xids.clear();
+        self.txns.clear();
+        self.locks.clear();
+        self.survivors = 0;
+    }
+
+    /// One more transaction is open. Where memory is refused, the table is no longer of use.
+    pub fn start(&mut self, alloc: Global, at: Pos, xid: Xid) -> Result<(), NoMemory>
+        requires table { IsTable self.old }
+        requires before { BeganBefore at (txns_of self.old) }
+        requires fresh { open_of xid (txns_of self.old) ≡ None }
+        ensures table { OnOk result (IsTable self.new) }
+        ensures started { OnOk result (txns_of self.new ≡ txns_of self.old ++ record { start = at; xid = xid; keys = [] } ∷ []) }
+    {
+        let open = Open {
+            xid,
+            keys: Survivors::new(alloc),
+        };
+        if self.xids.insert(xid, at).is_err() {
+            return Err(NoMemory);
+        }
+        if self.txns.insert(at, open).is_err() {
+            return Err(NoMemory);
+        }
+        Ok(())
+    }
+
+    /// The transaction of this id made a change that touches these keys, if it is open. Where memory is refused, the table
+    /// is no longer of use.
+    pub fn touch(&mut self, xid: Xid, keys: Vec<Key>) -> Result<(), NoMemory>
+        requires table { IsTable self.old }
+        requires free { least (kept_out xid keys.items (txns_of self.old)) ≡ None }
+        requires room { changes_of (txns_of self.old) < 2 ^ 19 }
+        ensures table { OnOk result (IsTable self.new) }
+        ensures touched { OnOk result (txns_of self.new ≡ with_open (touching keys.items) xid (txns_of self.old)) }
+    {
+        let Some(start) = self.xids.get(&xid) else {
+            return Ok(());
+        };
+        let start = *start;
+        match self.txns.get_mut(&start) {
+            None => Ok(()),
+            Some(open) => {
+                take(open, &mut self.locks, keys)?;
+                self.survivors += 1;
+                Ok(())
+            }
+        }
+    }
+
+    /// The latest surviving change of the transaction of this id is taken back, if it is open and has one.
+    pub fn undo(&mut self, xid: Xid)
+        requires { IsTable self.old }
+        ensures table { IsTable self.new }
+        ensures undone { txns_of self.new ≡ with_open giving_back xid (txns_of self.old) }
+    {
+        let Some(start) = self.xids.get(&xid) else {
+            return;
+        };
+        let start = *start;
+        let Some(open) = self.txns.get_mut(&start) else {
+            return;
+        };
+        let count = give_back(open, &mut self.locks);
+        self.survivors -= count;
+    }
+
+    /// The transaction of this id ends, if it is open.
+    pub fn close(&mut self, xid: Xid)
+        requires { IsTable self.old }
+        ensures table { IsTable self.new }
+        ensures closed { txns_of self.new ≡ closed xid (txns_of self.old) }
+    {
+        let Some(start) = self.xids.remove(&xid) else {
+            return;
+        };
+        let Some(open) = self.txns.remove(&start) else {
+            return;
+        };
+        free_changes(&mut self.locks, open.keys.items());
+        self.survivors -= open.keys.items().len() as u64;
+    }
+}
+
+fn has_none(changes: &[TouchedKeys]) -> bool
+    ensures { result ≡ is_empty changes.now }
+{
+    match changes {
+        [] => true,
+        [_, ..] => false,
+    }
+}
+
+// The transaction makes a change that touches these keys, and takes those that are free.
+fn take(open: &mut Open, locks: &mut BTreeMap<Key, Hold>, keys: Vec<Key>) -> Result<(), NoMemory>
+    ensures keys { OnOk result (open.new ≡ record open.old { keys = open.old.keys ++ keys.items ∷ [] }) }
+    ensures locks { OnOk result ((q : Key) → tree.get key_cmp locks.new q ≡ taken (tree.get key_cmp locks.old) keys.items (record { holder = open.old.xid; place = length open.old.keys }) q) }
+{
+    let hold = Hold {
+        holder: open.xid,
+        place: open.keys.items().len(),
+    };
+    take_keys(locks, keys.as_slice(), hold)?;
+    open.keys.push(TouchedKeys::of(keys))
+}
+
+// Takes the latest change back, and frees the keys that it took. It says how many changes that are.
+fn give_back(open: &mut Open, locks: &mut BTreeMap<Key, Hold>) -> u64
+    ensures { GivesBack open.old open.new (tree.get key_cmp locks.old) (tree.get key_cmp locks.new) result }
+{
+    let Some(keys) = open.keys.pop() else {
+        return 0;
+    };
+    let from = Hold {
+        holder: open.xid,
+        place: open.keys.items().len(),
+    };
+    free_keys_of(locks, keys.items(), from);
+    1
+}
