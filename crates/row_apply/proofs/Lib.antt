@@ -1,0 +1,15 @@
+pub mod Sound
+pub mod Orders
+pub mod Slots
+pub mod Owners
+pub mod Adding
+pub mod Fitting
+pub mod Effects
+pub mod Indexes
+pub mod Shapes
+pub mod Keeping
+pub mod Seeing
+pub mod Joining
+pub mod Accepted
+pub mod Writing
+pub mod Whole

@@ -1,0 +1,5 @@
+use Rattle.row_apply.proofs.Sound.{empty-sound}
+use Rattle.row_apply.proofs.laws.tables_without_rows_are_sound.Goals as goal
+
+pub returns : goal.returns
+returns c = empty-sound

@@ -1,0 +1,9 @@
+pub mod Overlaid
+pub mod Found
+pub mod Soundness
+pub mod Written
+pub mod Outcomes
+pub mod Kept
+pub mod Adding
+pub mod Values
+pub mod KeptIn

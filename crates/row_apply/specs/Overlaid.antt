@@ -1,0 +1,43 @@
+-- Written rows in place of those beneath: the tables after a list of writes, each of which puts a row in the place of the
+-- one with its primary key, or takes that one away. This project's own.
+use Rattle.std.specs.Prelude.{ℕ, List, [], ◌∷◌, Bool, map, not, ◌==◌, if◌then◌else◌, Option, Some, None, is_some}
+use Rattle.std.specs.List.{list_all}
+use Rattle.std.specs.Ordering.{eq_by_cmp}
+use Rattle.std.specs.FinMap.Entries as entries
+use Rattle.rl_value.specs.declared.value.Value.{Value}
+use Rattle.rl_value.specs.declared.key.Key.{Key}
+use Rattle.rl_value.specs.Order.{row_cmp, keys_rise}
+use Rattle.redo_vec.specs.declared.table.TableRow.{TableRow}
+use Rattle.redo_spec.specs.Dictionary.{table_of}
+use Rattle.redo_spec.specs.Tables.{Rows, Table, Tables}
+use Rattle.row_apply.specs.declared.writes.Write.{Write}
+
+-- the rows with this one under its key, or with none there
+abbrev pub write_row : Rows → List Value → Option (List Value) → Rows
+write_row rows key None = entries.where_key row_cmp (λ k. not (eq_by_cmp row_cmp key k)) rows
+write_row rows key (Some row) = entries.put row_cmp key row rows
+
+-- the rows of a table after those of the writes that are of it, one after the other
+abbrev pub rows_after : ℕ → List Write → Rows → Rows
+rows_after id [] rows = rows
+rows_after id (w ∷ ws) rows = rows_after id ws (if w.table == id then write_row rows w.key w.row else rows)
+
+-- the table with the written rows in place of its own
+abbrev pub table_after : List Write → Table → Table
+table_after ws t = record t { rows = rows_after t.row.id ws t.rows }
+
+-- the tables with the written rows in place of theirs
+abbrev pub overlaid : Tables → List Write → Tables
+overlaid tables ws = map (table_after ws) tables
+
+-- the primary key that a write is of
+abbrev pub written_key : Write → Key
+written_key w = record { table = w.table; index = 0; values = w.key }
+
+-- one write for each row key, in rising order of table and key
+abbrev pub writes_rise : List Write → Bool
+writes_rise ws = keys_rise (map written_key ws)
+
+-- each write is of one of these tables
+abbrev pub are_of : List TableRow → List Write → Bool
+are_of tables ws = list_all (λ w. is_some (table_of tables w.table)) ws

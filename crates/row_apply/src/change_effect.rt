@@ -1,0 +1,160 @@
+//! The effect of a change on the rows that it finds.
+//!
+//! What stands in the way is told in this order: a row that is not there, or not as it was logged; then a row with the
+//! new primary key; then a row with a unique value. The row that an update takes away is never in its own way.
+
+ghost use Rattle.std.specs.Prelude.{◌≡◌, ◌<◌, Ok, Err, None, Some, Result, OnOk, OnErr, IfOk, IsTrue, length, is_some, true};
+ghost use Rattle.redo_spec.specs.ChangeForm.{change_fault, is_row_of};
+ghost use Rattle.redo_spec.specs.Effect.{effect as effect_of, effect_on, take_row, difference, logged_key, with_cells, cell_values};
+ghost use Rattle.redo_spec.specs.Tables.{definitions_of};
+ghost use Rattle.redo_vec.specs.declared.change.Op.TheVariants.{Insert, Update, Delete};
+ghost use Rattle.row_apply.specs.Adding.{CanChange};
+ghost use Rattle.row_apply.specs.Kept.{row_key, rows_seen, table_seen, ChangesOnly};
+ghost use Rattle.row_apply.specs.KeptIn.{slots_of, IsKept};
+ghost use Rattle.row_apply.specs.Overlaid.{overlaid, are_of};
+ghost use Rattle.row_apply.specs.Outcomes.{OnMiss};
+ghost use Rattle.row_apply.specs.Soundness.{AreSound, AreSoundRows};
+
+use crate::additions::add;
+use crate::fault::EffectFault;
+use crate::new_rows::{check_logged, logged_key, row_of_cells, row_with_cells};
+use crate::overlay::Overlay;
+use crate::rows::Rows;
+use crate::seen::found;
+use crate::written::Written;
+use redo_dict::Dict;
+use redo_vec::{Change, Op, TableRow};
+use rl_value::{Key, Miss, NoMemory};
+
+fn insert<R: Rows>(
+    base: &R,
+    over: &mut Written,
+    table: &TableRow,
+    change: &Change,
+) -> Result<(), EffectFault>
+    requires can { CanChange (R.tables base.now) over.old table.now change.now }
+    requires op { change.now.op ≡ Insert }
+    ensures done { OnOk result (effect_on (table_seen (R.tables base.now) (slots_of over.old) table.now) Insert change.now.old change.now.new ≡ Ok (table_seen (R.tables base.now) (slots_of over.new) table.now)) }
+    ensures miss { OnMiss result (λ miss. effect_on (table_seen (R.tables base.now) (slots_of over.old) table.now) Insert change.now.old change.now.new ≡ Err miss) }
+    ensures unchanged { OnErr result (slots_of over.new ≡ slots_of over.old) }
+    ensures kept { IsKept over.new }
+    ensures others { ChangesOnly table.now.id (slots_of over.old) (slots_of over.new) }
+    ensures sound { AreSoundRows table.now (rows_seen (R.tables base.now) (slots_of over.new) table.now) }
+{
+    let _cells = change.new.cells();
+    let Ok(row) = row_of_cells(over.alloc, table, &change.new) else {
+        return Err(EffectFault::Memory);
+    };
+    add(base, over, table, None, row)
+}
+
+// The key of the row that the change logged.
+fn key_logged(over: &Written, table: &TableRow, change: &Change) -> Result<Key, NoMemory>
+    ensures { IfOk result (λ key. key ≡ row_key table.now.id (logged_key table.now change.now.old)) }
+{
+    let values = logged_key(over.alloc, table, &change.old)?;
+    Ok(Key {
+        table: table.id,
+        index: 0,
+        values,
+    })
+}
+
+fn update<R: Rows>(
+    base: &R,
+    over: &mut Written,
+    table: &TableRow,
+    change: &Change,
+) -> Result<(), EffectFault>
+    requires can { CanChange (R.tables base.now) over.old table.now change.now }
+    ensures done { OnOk result (effect_on (table_seen (R.tables base.now) (slots_of over.old) table.now) Update change.now.old change.now.new ≡ Ok (table_seen (R.tables base.now) (slots_of over.new) table.now)) }
+    ensures miss { OnMiss result (λ miss. effect_on (table_seen (R.tables base.now) (slots_of over.old) table.now) Update change.now.old change.now.new ≡ Err miss) }
+    ensures unchanged { OnErr result (slots_of over.new ≡ slots_of over.old) }
+    ensures kept { IsKept over.new }
+    ensures others { ChangesOnly table.now.id (slots_of over.old) (slots_of over.new) }
+    ensures sound { AreSoundRows table.now (rows_seen (R.tables base.now) (slots_of over.new) table.now) }
+{
+    let Ok(key) = key_logged(over, table, change) else {
+        return Err(EffectFault::Memory);
+    };
+    let Some(row) = found(base, over, table, &key) else {
+        return Err(EffectFault::Miss(Miss::Absent(key)));
+    };
+    check_logged(row.values(), change.old.cells())?;
+    let Ok(after) = row_with_cells(over.alloc, table, row, &change.new) else {
+        return Err(EffectFault::Memory);
+    };
+    add(base, over, table, Some(key), after)
+}
+
+fn delete<R: Rows>(
+    base: &R,
+    over: &mut Written,
+    table: &TableRow,
+    change: &Change,
+) -> Result<(), EffectFault>
+    requires can { CanChange (R.tables base.now) over.old table.now change.now }
+    ensures done { OnOk result (effect_on (table_seen (R.tables base.now) (slots_of over.old) table.now) Delete change.now.old change.now.new ≡ Ok (table_seen (R.tables base.now) (slots_of over.new) table.now)) }
+    ensures miss { OnMiss result (λ miss. effect_on (table_seen (R.tables base.now) (slots_of over.old) table.now) Delete change.now.old change.now.new ≡ Err miss) }
+    ensures unchanged { OnErr result (slots_of over.new ≡ slots_of over.old) }
+    ensures kept { IsKept over.new }
+    ensures others { ChangesOnly table.now.id (slots_of over.old) (slots_of over.new) }
+    ensures sound { AreSoundRows table.now (rows_seen (R.tables base.now) (slots_of over.new) table.now) }
+{
+    let Ok(key) = key_logged(over, table, change) else {
+        return Err(EffectFault::Memory);
+    };
+    let Some(row) = found(base, over, table, &key) else {
+        return Err(EffectFault::Miss(Miss::Absent(key)));
+    };
+    check_logged(row.values(), change.old.cells())?;
+    match over.take_row(key) {
+        Ok(()) => Ok(()),
+        Err(NoMemory) => Err(EffectFault::Memory),
+    }
+}
+
+fn change_rows<R: Rows>(
+    base: &R,
+    over: &mut Written,
+    table: &TableRow,
+    change: &Change,
+) -> Result<(), EffectFault>
+    requires can { CanChange (R.tables base.now) over.old table.now change.now }
+    ensures done { OnOk result (effect_on (table_seen (R.tables base.now) (slots_of over.old) table.now) change.now.op change.now.old change.now.new ≡ Ok (table_seen (R.tables base.now) (slots_of over.new) table.now)) }
+    ensures miss { OnMiss result (λ miss. effect_on (table_seen (R.tables base.now) (slots_of over.old) table.now) change.now.op change.now.old change.now.new ≡ Err miss) }
+    ensures unchanged { OnErr result (slots_of over.new ≡ slots_of over.old) }
+    ensures kept { IsKept over.new }
+    ensures others { ChangesOnly table.now.id (slots_of over.old) (slots_of over.new) }
+    ensures sound { AreSoundRows table.now (rows_seen (R.tables base.now) (slots_of over.new) table.now) }
+{
+    match change.op {
+        Op::Insert => insert(base, over, table, change),
+        Op::Update => update(base, over, table, change),
+        Op::Delete => delete(base, over, table, change),
+    }
+}
+
+/// Does the change to the rows of the base with those of the overlay in place. The overlay takes what it writes, and the
+/// base stays as it is. The cost is logarithmic in the rows, but for the first change of a table.
+pub fn effect<R: Rows>(
+    base: &R,
+    dict: &Dict,
+    over: &mut Overlay,
+    change: &Change,
+) -> Result<(), EffectFault>
+    requires definitions { definitions_of (R.tables base.now) ≡ dict.now.tables }
+    requires accepted { change_fault dict.now.tables change.now ≡ None }
+    requires base_sound { AreSound (R.tables base.now) }
+    requires sound { AreSound (overlaid (R.tables base.now) over.old) }
+    ensures done { OnOk result (effect_of (overlaid (R.tables base.now) over.old) change.now ≡ Ok (overlaid (R.tables base.now) over.new)) }
+    ensures miss { OnMiss result (λ miss. effect_of (overlaid (R.tables base.now) over.old) change.now ≡ Err miss) }
+    ensures unchanged { OnErr result (over.new ≡ over.old) }
+    ensures sound { AreSound (overlaid (R.tables base.now) over.new) }
+    ensures of_tables { IsTrue (are_of dict.now.tables over.old) → IsTrue (are_of dict.now.tables over.new) }
+{
+    let Some(table) = dict.def(change.table) else {
+        unreachable!()
+    };
+    change_rows(base, &mut over.written, table, change)
+}
