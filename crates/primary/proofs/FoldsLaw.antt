@@ -1,0 +1,425 @@
+-- The steps of a progress are the fold: after any records it stands where `folded` of their commits stands.
+use Rattle.std.proofs.Common.{◌≡◌, ℕ, zero, suc, ◌+◌, ◌-◌, ◌≤◌, ◌<◌, ◌==◌, nat_lt, List, [], ◌∷◌, ◌++◌, map, drop, take, length, slice_get, refl, sym, ap, ◌∙◌, subst, Bool, true, false, cond, if◌then◌else◌, Option, Some, None, Result, Ok, Err, unwrap_or, arith}
+use Rattle.std.proofs.lemmas.Bool.Decides.{nat_tests}
+use Rattle.std.specs.Option.{option_map_or}
+use Rattle.std.proofs.lemmas.List.{length-append}
+use Rattle.redo_law.specs.Calls.{standing_of}
+use Rattle.rl_value.specs.declared.xid.Xid.{Xid}
+use Rattle.rl_value.specs.declared.pos.Pos.{Pos}
+use Rattle.rl_value.specs.declared.cause.LawFault.{LawFault}
+use Rattle.rl_value.specs.declared.cause.Cause.TheVariants as causes
+use Rattle.rl_value.specs.declared.verdict.Stop.{Stop}
+use Rattle.rl_value.specs.declared.verdict.Stop.TheVariants.{Malformed}
+use Rattle.rl_value.specs.declared.verdict.Verdict.{Verdict}
+use Rattle.rl_value.specs.declared.verdict.Verdict.TheVariants.{Stopped}
+use Rattle.redo_vec.specs.declared.redo_rec.RedoRec.{RedoRec}
+use Rattle.redo_vec.specs.declared.vector.Vector.{Vector}
+use Rattle.redo_vec.specs.declared.vector.Vector.TheVariants.{Start, Change as OfChange, Undo, Commit, Rollback, Table, DictEnd}
+use Rattle.redo_spec.specs.declared.header.Header.{Header}
+use Rattle.redo_spec.specs.Tables.{Tables, definitions_of}
+use Rattle.redo_spec.specs.History.{Entry, Placed, Txn, Committed, Commits, History, commits_after, commit_count, no_history, ended_by, committed_at, after_vector as history_vector, after_vectors as history_vectors, history_after}
+use Rattle.redo_spec.specs.Standing.{Standing, standing_after, standing_after_all, entered as entered_standing, record_after}
+use Rattle.redo_spec.specs.Law.{Admitted, dictionary_fault, vector_fault, vectors_fault, whole_fault, record_fault, admitted_or, admission}
+use Rattle.redo_spec.specs.Skips.{Skip}
+use Rattle.redo_spec.specs.Fold.{Base, Folded, effects, commit_effect, commit_effects, known_tables, folded, redo_end}
+use Rattle.primary.specs.declared.plain.Plain.{Plain}
+use Rattle.primary.specs.Progress.{OpenChanges, changes_of, Ahead, Progress, Going, Ended, kept_of, tables_or, ended_or, applied, committed, live_after, commit_of, with_commit, after_vector, after_vectors, tables_then, entered, judged, after_record, after_records, held_at, end_of}
+use Rattle.primary.specs.Starts.{tables_shown, base_of, fold_admitted, fold_from, IsStart, begun, after}
+use Rattle.primary.proofs.WalkLaws.{Walked, came, halted, walk, walk_from, walk-snoc, walk_stays, walked_or, seen, walk_is_fold}
+use Rattle.primary.proofs.FitLaws.{none_first, none_second, no_fault, is_whole, both, opens_after}
+use Rattle.primary.specs.Running.{Opens}
+use Rattle.primary.proofs.LiveLaws.{nothing_rises}
+use Rattle.primary.proofs.HistoryFit.{Lives, lives_after, Ends, commit_ends}
+use Rattle.primary.proofs.DictionaryLaws.{record_keeps}
+
+-- ---- lists
+
+drop_front : {A : Type 0} (k : ℕ) (xs ys : List A) → k ≤ length xs → drop k (xs ++ ys) ≡ drop k xs ++ ys
+drop_front zero xs ys h = refl
+drop_front (suc k) [] ys h = absurd (omega (arith, h))
+drop_front (suc k) (x ∷ xs) ys h = drop_front k xs ys (omega (arith, h))
+
+drop_past : {A : Type 0} (k : ℕ) (xs : List A) → length xs ≤ k → drop k xs ≡ []
+drop_past zero [] h = refl
+drop_past zero (x ∷ xs) h = absurd (omega (arith, h))
+drop_past (suc k) [] h = refl
+drop_past (suc k) (x ∷ xs) h = drop_past k xs (omega (arith, h))
+
+-- ---- commits
+
+-- the walk over the commits behind the start
+abbrev pub goes : Plain → List Skip → Tables → Commits → Walked
+goes start skips base cs = walk skips start.n start.scn base (commits_after cs start.n)
+
+pub record Counts (start : Plain) (skips : List Skip) (base : Tables) (cs : Commits) (a : Ahead) : Type 0 where
+  pub before : cs.before ≡ start.before
+  pub made : a.made ≡ commit_count cs
+  pub least : start.n ≤ a.n
+  pub most : a.made ≤ a.n
+  pub same : start.n < a.n → a.n ≡ a.made
+  pub walked : goes start skips base cs ≡ came a.n a.scn a.tables None
+
+pub record Halts (start : Plain) (skips : List Skip) (base : Tables) (cs : Commits) (f : Folded) : Type 0 where
+  pub before : cs.before ≡ start.before
+  pub past : start.n ≤ commit_count cs
+  pub walked : goes start skips base cs ≡ came f.n f.scn f.tables (Some f.verdict)
+
+abbrev pub Holds : Plain → List Skip → Tables → Commits → Progress → Type 0
+Holds start skips base cs (Going a) = Counts start skips base cs a
+Holds start skips base cs (Ended f) = Halts start skips base cs f
+
+abbrev pub and_then : Commits → List Committed → Commits
+and_then cs more = record cs { made = cs.made ++ more }
+
+halts_on : (start : Plain) (skips : List Skip) (base : Tables) (cs : Commits) (f : Folded) (more : List Committed) → Halts start skips base cs f → Halts start skips base (and_then cs more) f
+halts_on start skips base cs f more h =
+    let k = start.n - cs.before in
+    let long = length-append cs.made more in
+    let inside : k ≤ length cs.made = omega (arith, h.past) in
+    record {
+      before = h.before;
+      past = omega (arith, h.past, long);
+      walked = ap (λ ds. walk skips start.n start.scn base ds) (drop_front k cs.made more inside)
+          ∙ walk_stays skips start.n start.scn base (drop k cs.made) more f.verdict (ap (λ w. w.stop) h.walked)
+          ∙ h.walked;
+    }
+
+-- a count that is above what was made is that of the start
+count_at_start : (m n made : ℕ) → m ≤ n → (m < n → n ≡ made) → made < n → n ≡ m
+count_at_start m n made least same below =
+    elim (nat_lt m n) as (λ b. nat_lt m n ≡ b → n ≡ m) [
+      | true ↦ λ is. let past : m < n = grind (arith, nat_tests, is) in let level = same past in absurd (omega (arith, level, below))
+      | false ↦ λ is. grind (arith, nat_tests, is, least)
+    ] refl
+
+-- a commit that the tables have already is counted and changes nothing
+counted : (start : Plain) (skips : List Skip) (base : Tables) (cs : Commits) (a : Ahead) (c : Committed) → start.before ≤ start.n → Counts start skips base cs a → a.made < a.n →
+    Counts start skips base (and_then cs (c ∷ [])) (record a { made = a.made + 1 })
+counted start skips base cs a c first k below =
+    let long = length-append cs.made (c ∷ []) in
+    let made = k.made in
+    let before = k.before in
+    let least = k.least in
+    let same = k.same in
+    let at_start : a.n ≡ start.n = count_at_start start.n a.n a.made least same below in
+    let few : length cs.made + 1 ≤ start.n - cs.before = omega (arith, at_start, made, before, first, below) in
+    record {
+      before = k.before;
+      made = omega (arith, made, long);
+      least = k.least;
+      most = omega (arith, below);
+      same = λ past. absurd (omega (arith, past, at_start));
+      walked = ap (λ ds. walk skips start.n start.scn base ds)
+          (drop_past (start.n - cs.before) (cs.made ++ c ∷ []) (omega (arith, few, long)) ∙ sym (drop_past (start.n - cs.before) cs.made (omega (arith, few))))
+          ∙ k.walked;
+    }
+
+next_walk : (start : Plain) (skips : List Skip) (base : Tables) (cs : Commits) (a : Ahead) (c : Committed) → Counts start skips base cs a → a.made ≡ a.n →
+    goes start skips base (and_then cs (c ∷ [])) ≡ walk skips a.n a.scn a.tables (c ∷ [])
+next_walk start skips base cs a c k level =
+    let made = k.made in
+    let before = k.before in
+    let least = k.least in
+    let inside : start.n - cs.before ≤ length cs.made = omega (arith, made, level, least, before) in
+    ap (λ ds. walk skips start.n start.scn base ds) (drop_front (start.n - cs.before) cs.made (c ∷ []) inside)
+    ∙ walk-snoc skips start.n start.scn base (drop (start.n - cs.before) cs.made) c
+    ∙ ap (λ w. walk_from w.stop skips c w) k.walked
+
+-- the next commit is applied, or ends the fold
+taken : (start : Plain) (skips : List Skip) (base : Tables) (cs : Commits) (a : Ahead) (c : Committed) → Counts start skips base cs a → a.made ≡ a.n →
+    (o : Option Verdict) → halted c.scn (commit_effect skips a.n a.tables c) ≡ o →
+    Holds start skips base (and_then cs (c ∷ [])) (ended_or o c.scn (tables_or a.tables (commit_effect skips a.n a.tables c)) a)
+taken start skips base cs a c k level (Some v) is =
+    let made = k.made in
+    let least = k.least in
+    let long = length-append cs.made (c ∷ []) in
+    record {
+      before = k.before;
+      past = omega (arith, made, level, least, long);
+      walked = next_walk start skips base cs a c k level ∙ ap (λ p. walked_or p a.n a.scn a.tables (came (a.n + 1) c.scn (tables_or a.tables (commit_effect skips a.n a.tables c)) None)) is;
+    }
+taken start skips base cs a c k level None is =
+    let made = k.made in
+    let least = k.least in
+    let most = k.most in
+    let long = length-append cs.made (c ∷ []) in
+    record {
+      before = k.before;
+      made = omega (arith, made, long);
+      least = omega (arith, least);
+      most = omega (arith, most);
+      same = λ past. ap (λ (m : ℕ). m + 1) (sym level);
+      walked = next_walk start skips base cs a c k level ∙ ap (λ p. walked_or p a.n a.scn a.tables (came (a.n + 1) c.scn (tables_or a.tables (commit_effect skips a.n a.tables c)) None)) is;
+    }
+
+-- a commit of these changes
+commit_holds : (start : Plain) (skips : List Skip) (base : Tables) (cs : Commits) (a : Ahead) (c : Committed) → start.before ≤ start.n → Counts start skips base cs a →
+    Holds start skips base (and_then cs (c ∷ [])) (committed skips c.scn c.txn.survivors a)
+commit_holds start skips base cs a c first k =
+    let most = k.most in
+    elim (nat_lt a.made a.n) as (λ b. nat_lt a.made a.n ≡ b → Holds start skips base (and_then cs (c ∷ []))
+    (cond b (Going (record a { made = a.made + 1 })) (applied c.scn (commit_effect skips a.n a.tables c) a))) [
+      | true ↦ λ is. let below : a.made < a.n = grind (arith, nat_tests, is) in counted start skips base cs a c first k below
+      | false ↦ λ is. let level : a.made ≡ a.n = grind (arith, nat_tests, is, most) in taken start skips base cs a c k level (halted c.scn (commit_effect skips a.n a.tables c)) refl
+    ] refl
+
+-- ---- vectors
+
+abbrev pub IfGoing : Progress → (Ahead → Type 0) → Type 0
+IfGoing (Going a) P = P a
+IfGoing (Ended f) P = Unit {0}
+
+going_same : (skips : List Skip) (scn : ℕ) (ps : List Placed) (a : Ahead) (P : Standing → OpenChanges → Type 0) → P a.standing a.live → IfGoing (committed skips scn ps a) (λ b. P b.standing b.live)
+going_same skips scn ps a P p =
+    elim (nat_lt a.made a.n) as (λ b. IfGoing (cond b (Going (record a { made = a.made + 1 })) (applied scn (effects a.tables (kept_of skips (definitions_of a.tables) a.n ps)) a)) (λ b. P b.standing b.live)) [
+      | true ↦ p
+      | false ↦ by (halted scn (effects a.tables (kept_of skips (definitions_of a.tables) a.n ps)))
+    ]
+  where
+    by : (o : Option Verdict) → IfGoing (ended_or o scn (tables_or a.tables (effects a.tables (kept_of skips (definitions_of a.tables) a.n ps))) a) (λ b. P b.standing b.live)
+    by None = p
+    by (Some v) = tt
+
+-- the open transactions of a fold that goes on, and what it has judged
+pub record Tied (last s : Standing) (hist : History) (standing : Standing) (live : OpenChanges) : Type 0 where
+  pub judged : standing ≡ last
+  pub opens : Opens s live
+  pub lives : Lives hist.active live
+
+pub record Within (start : Plain) (skips : List Skip) (base : Tables) (last s : Standing) (hist : History) (p : Progress) : Type 0 where
+  pub holds : Holds start skips base hist.commits p
+  pub tied : IfGoing p (λ a. Tied last s hist a.standing a.live)
+
+vector_holds : (start : Plain) (skips : List Skip) (base : Tables) (last : Standing) (h : Header) (vec : ℕ) (v : Vector) (s : Standing) (hist : History) (p : Progress) →
+    start.before ≤ start.n → vector_fault h s v ≡ None → Within start skips base last s hist p →
+    Within start skips base last (standing_after vec v s) (history_vector s.scn (record { rec = s.rec; vec = vec }) v hist) (after_vector skips s.scn (record { rec = s.rec; vec = vec }) v p)
+vector_holds start skips base last h vec v s hist (Ended f) first fits w = record { holds = by v; tied = tt }
+  where
+    by : (v : Vector) → Halts start skips base (history_vector s.scn (record { rec = s.rec; vec = vec }) v hist).commits f
+    by (Start x) = w.holds
+    by (OfChange c) = w.holds
+    by (Undo x) = w.holds
+    by (Commit x) = halts_on start skips base hist.commits f _ w.holds
+    by (Rollback x) = w.holds
+    by (Table t) = w.holds
+    by DictEnd = w.holds
+vector_holds start skips base last h vec v s hist (Going a) first fits w =
+    let at : Pos = record { rec = s.rec; vec = vec } in
+    let opens = opens_after vec at v s a.live w.tied.opens in
+    let lives = lives_after h s.scn at v s hist a.live w.tied.opens fits w.tied.lives in
+    let tied : Tied last (standing_after vec v s) (history_vector s.scn at v hist) a.standing (live_after at v a.live) = record { judged = w.tied.judged; opens = opens; lives = lives } in
+    by v tied
+  where
+    by : (v : Vector) → Tied last (standing_after vec v s) (history_vector s.scn (record { rec = s.rec; vec = vec }) v hist) a.standing (live_after (record { rec = s.rec; vec = vec }) v a.live) →
+        Within start skips base last (standing_after vec v s) (history_vector s.scn (record { rec = s.rec; vec = vec }) v hist) (after_vector skips s.scn (record { rec = s.rec; vec = vec }) v (Going a))
+    by (Start x) t = record { holds = record { before = w.holds.before; made = w.holds.made; least = w.holds.least; most = w.holds.most; same = w.holds.same; walked = w.holds.walked }; tied = t }
+    by (OfChange c) t = record { holds = record { before = w.holds.before; made = w.holds.made; least = w.holds.least; most = w.holds.most; same = w.holds.same; walked = w.holds.walked }; tied = t }
+    by (Undo x) t = record { holds = record { before = w.holds.before; made = w.holds.made; least = w.holds.least; most = w.holds.most; same = w.holds.same; walked = w.holds.walked }; tied = t }
+    by (Rollback x) t = record { holds = record { before = w.holds.before; made = w.holds.made; least = w.holds.least; most = w.holds.most; same = w.holds.same; walked = w.holds.walked }; tied = t }
+    by (Table u) t = record { holds = w.holds; tied = t }
+    by DictEnd t = record { holds = w.holds; tied = t }
+    by (Commit x) t =
+        let at : Pos = record { rec = s.rec; vec = vec } in
+        let ends = commit_ends at x hist.active a.live w.tied.lives in
+        let c : Committed = record { txn = ends.txn; at = at; scn = s.scn } in
+        let b : Ahead = record a { live = live_after at (Commit x) a.live } in
+        let kept : Counts start skips base hist.commits b = record { before = w.holds.before; made = w.holds.made; least = w.holds.least; most = w.holds.most; same = w.holds.same; walked = w.holds.walked } in
+        let one : Holds start skips base (and_then hist.commits (c ∷ [])) (committed skips s.scn ends.txn.survivors b) = commit_holds start skips base hist.commits b c first kept in
+        record {
+          holds = subst (λ (ps : List Placed). Holds start skips base (history_vector s.scn at (Commit x) hist).commits (committed skips s.scn ps b)) ends.survivors
+              (subst (λ (ts : List Txn). Holds start skips base (committed_at at s.scn ts hist.commits) (committed skips s.scn ends.txn.survivors b)) (sym ends.is) one);
+          tied = going_same skips s.scn (unwrap_or (changes_of x a.live) []) b (λ standing live. Tied last (standing_after vec (Commit x) s) (history_vector s.scn at (Commit x) hist) standing live) t;
+        }
+
+pub ended_vectors : (skips : List Skip) (scn rec vec : ℕ) (vs : List Vector) (f : Folded) → after_vectors skips scn rec vec vs (Ended f) ≡ Ended f
+ended_vectors skips scn rec vec [] f = refl
+ended_vectors skips scn rec vec (v ∷ vs) f = ended_vectors skips scn rec (vec + 1) vs f
+
+vectors_hold : (start : Plain) (skips : List Skip) (base : Tables) (last : Standing) (h : Header) (vec : ℕ) (vs : List Vector) (s : Standing) (hist : History) (p : Progress) →
+    start.before ≤ start.n → vectors_fault h vec vs s ≡ None → Within start skips base last s hist p →
+    Within start skips base last (standing_after_all vec vs s) (history_vectors s.scn s.rec vec vs hist) (after_vectors skips s.scn s.rec vec vs p)
+vectors_hold start skips base last h vec [] s hist p first fits w = w
+vectors_hold start skips base last h vec (v ∷ vs) s hist p first fits w =
+    let at : Pos = record { rec = s.rec; vec = vec } in
+    vectors_hold start skips base last h (vec + 1) vs (standing_after vec v s) (history_vector s.scn at v hist) (after_vector skips s.scn at v p) first (none_second (vector_fault h s v) _ fits)
+    (vector_holds start skips base last h vec v s hist p first (none_first (vector_fault h s v) _ fits) w)
+
+-- ---- records
+
+-- the tables of the start, by this dictionary
+abbrev pub base_at : Plain → Standing → Tables
+base_at start s = tables_shown s.dictionary.finished s.dictionary.tables start.tables
+
+-- before the dictionary is whole nothing was committed, and there are no rows
+pub record Early (start : Plain) (s : Standing) (hist : History) : Type 0 where
+  pub made : s.dictionary.finished ≡ false → hist.commits.made ≡ []
+  pub none : s.dictionary.finished ≡ false → start.tables ≡ []
+
+early_vector : (start : Plain) (h : Header) (vec : ℕ) (v : Vector) (s : Standing) (hist : History) → vector_fault h s v ≡ None → Early start s hist →
+    Early start (standing_after vec v s) (history_vector s.scn (record { rec = s.rec; vec = vec }) v hist)
+early_vector start h vec (Start x) s hist fits e = record { made = e.made; none = e.none }
+early_vector start h vec (OfChange c) s hist fits e = record { made = e.made; none = e.none }
+early_vector start h vec (Undo x) s hist fits e = record { made = e.made; none = e.none }
+early_vector start h vec (Commit x) s hist fits e = record {
+  made = λ not. both s.dictionary.finished (is_whole s.dictionary.finished _ (no_fault _ _ (none_first (dictionary_fault h s (Commit x)) _ fits))) not;
+  none = e.none;
+}
+early_vector start h vec (Rollback x) s hist fits e = record { made = e.made; none = e.none }
+early_vector start h vec (Table t) s hist fits e = record { made = e.made; none = e.none }
+early_vector start h vec DictEnd s hist fits e = record { made = λ not. absurd (cc); none = λ not. absurd (cc) }
+
+early_vectors : (start : Plain) (h : Header) (vec : ℕ) (vs : List Vector) (s : Standing) (hist : History) → vectors_fault h vec vs s ≡ None → Early start s hist →
+    Early start (standing_after_all vec vs s) (history_vectors s.scn s.rec vec vs hist)
+early_vectors start h vec [] s hist fits e = e
+early_vectors start h vec (v ∷ vs) s hist fits e =
+    early_vectors start h (vec + 1) vs (standing_after vec v s) _ (none_second (vector_fault h s v) _ fits) (early_vector start h vec v s hist (none_first (vector_fault h s v) _ fits) e)
+
+pub record Between (start : Plain) (skips : List Skip) (s : Standing) (hist : History) (p : Progress) : Type 0 where
+  pub within : Within start skips (base_at start s) s s hist p
+  pub early : Early start s hist
+
+-- a walk over no commits stands where it began
+stands : (start : Plain) (skips : List Skip) (base : Tables) (cs : Commits) → cs.made ≡ [] → goes start skips base cs ≡ came start.n start.scn base None
+stands start skips base cs none = ap (λ ds. walk skips start.n start.scn base (drop (start.n - cs.before) ds)) none ∙ ap (λ ds. walk skips start.n start.scn base ds) (drop_past (start.n - cs.before) [] (omega arith))
+
+no_end : (start : Plain) (skips : List Skip) (base : Tables) (cs : Commits) (v : Verdict) → cs.made ≡ [] → (goes start skips base cs).stop ≡ Some v → (P : Type 0) → P
+no_end start skips base cs v none ends P = let gone : None ≡ Some v = sym (ap (λ w. w.stop) (stands start skips base cs none)) ∙ ends in absurd (cc)
+
+-- as an admitted record begins, its dictionary is the one by which the base has its tables
+rebased : (start : Plain) (skips : List Skip) (e : Entry) (a : Ahead) (hist : History) → record_fault a.standing e ≡ None → Early start a.standing hist →
+    Counts start skips (base_at start a.standing) hist.commits a → Counts start skips (base_at start (record_after e a.standing)) hist.commits (entered e a)
+rebased start skips e a hist fits early k =
+    elim a.standing.dictionary.finished as (λ b. a.standing.dictionary.finished ≡ b → Counts start skips (base_at start (record_after e a.standing)) hist.commits
+    (record a { standing = record_after e a.standing; tables = tables_then b a.tables (record_after e a.standing) })) [
+      | true ↦ λ whole.
+          let same = record_keeps e a.standing fits whole in
+          record {
+            before = k.before;
+            made = k.made;
+            least = k.least;
+            most = k.most;
+            same = k.same;
+            walked = ap (λ d. goes start skips (tables_shown d.finished d.tables start.tables) hist.commits) same ∙ k.walked;
+          }
+      | false ↦ λ part.
+          let s = record_after e a.standing in
+          let base : base_at start s ≡ known_tables s = ap (λ rows. tables_shown s.dictionary.finished s.dictionary.tables rows) (early.none part) in
+          let was = sym (stands start skips (base_at start a.standing) hist.commits (early.made part)) ∙ k.walked in
+          record {
+            before = k.before;
+            made = k.made;
+            least = k.least;
+            most = k.most;
+            same = k.same;
+            walked = stands start skips (base_at start s) hist.commits (early.made part) ∙ (λ i. came (was i).n (was i).scn (base i) None);
+          }
+    ] refl
+
+-- a fold that has ended keeps its base
+base_stays : (start : Plain) (skips : List Skip) (e : Entry) (s : Standing) (hist : History) (f : Folded) → record_fault s e ≡ None → Early start s hist →
+    Halts start skips (base_at start s) hist.commits f → Halts start skips (base_at start (record_after e s)) hist.commits f
+base_stays start skips e s hist f fits early h =
+    elim s.dictionary.finished as (λ b. s.dictionary.finished ≡ b → Halts start skips (base_at start (record_after e s)) hist.commits f) [
+      | true ↦ λ whole.
+          let same = record_keeps e s fits whole in
+          record { before = h.before; past = h.past; walked = ap (λ d. goes start skips (tables_shown d.finished d.tables start.tables) hist.commits) same ∙ h.walked }
+      | false ↦ λ part. no_end start skips (base_at start s) hist.commits f.verdict (early.made part) (ap (λ w. w.stop) h.walked) _
+    ] refl
+
+record_holds : (start : Plain) (skips : List Skip) (e : Entry) (s : Standing) (hist : History) (p : Progress) → start.before ≤ start.n → record_fault s e ≡ None → Between start skips s hist p →
+    Between start skips (record_after e s) (history_after (s.rec + 1) e hist) (after_record skips e p)
+record_holds start skips (h, r) s hist (Ended f) first fits b =
+    let of_vectors = none_second (whole_fault s (h, r)) _ fits in
+    let begins : Within start skips (base_at start (record_after (h, r) s)) (record_after (h, r) s) (entered_standing (h, r) s) hist (Ended f) =
+    record { holds = base_stays start skips (h, r) s hist f fits b.early b.within.holds; tied = tt } in
+    record {
+      within = subst (λ (q : Progress). Within start skips (base_at start (record_after (h, r) s)) (record_after (h, r) s) (record_after (h, r) s) (history_after (s.rec + 1) (h, r) hist) q)
+          (ended_vectors skips r.scn (s.rec + 1) 1 r.vectors f)
+          (vectors_hold start skips (base_at start (record_after (h, r) s)) (record_after (h, r) s) h 1 r.vectors (entered_standing (h, r) s) hist (Ended f) first of_vectors begins);
+      early = early_vectors start h 1 r.vectors (entered_standing (h, r) s) hist of_vectors (record { made = b.early.made; none = b.early.none });
+    }
+record_holds start skips (h, r) s hist (Going a) first fits b =
+    let P : Standing → Type 0 = λ t. record_fault t (h, r) ≡ None → Within start skips (base_at start t) a.standing t hist (Going a) → Early start t hist →
+    Between start skips (record_after (h, r) t) (history_after (t.rec + 1) (h, r) hist) (after_record skips (h, r) (Going a)) in
+    let at_own : P a.standing = λ own w early.
+    let of_vectors = none_second (whole_fault a.standing (h, r)) _ own in
+    let last = record_after (h, r) a.standing in
+    let begins : Within start skips (base_at start last) last (entered_standing (h, r) a.standing) hist (Going (entered (h, r) a)) = record {
+      holds = rebased start skips (h, r) a hist own early w.holds;
+      tied = record { judged = refl; opens = record { rising = w.tied.opens.rising; alike = w.tied.opens.alike }; lives = w.tied.lives };
+    } in
+    let ends = vectors_hold start skips (base_at start last) last h 1 r.vectors (entered_standing (h, r) a.standing) hist (Going (entered (h, r) a)) first of_vectors begins in
+    record {
+      within = subst (λ (o : Option LawFault). Within start skips (base_at start last) last last (history_after (a.standing.rec + 1) (h, r) hist) (judged o skips (h, r) a)) (sym own) ends;
+      early = early_vectors start h 1 r.vectors (entered_standing (h, r) a.standing) hist of_vectors (record { made = early.made; none = early.none });
+    } in
+    let tied = b.within.tied in
+    subst P tied.judged at_own fits
+    (record { holds = b.within.holds; tied = record { judged = refl; opens = tied.opens; lives = tied.lives } }) b.early
+
+-- ---- the end
+
+folds_end : (start : Plain) (skips : List Skip) (base : Tables) (cs : Commits) (stop : Stop) (p : Progress) → Holds start skips base cs p → end_of stop p ≡ seen stop (goes start skips base cs)
+folds_end start skips base cs stop (Going a) h = ap (seen stop) (sym h.walked)
+folds_end start skips base cs stop (Ended f) h = ap (seen stop) (sym h.walked)
+
+first_before : (start : Plain) (skips : List Skip) (base : Tables) (cs : Commits) (p : Progress) → start.before ≤ start.n → Holds start skips base cs p → cs.before ≤ start.n
+first_before start skips base cs (Going a) first h = let before = h.before in omega (arith, before, first)
+first_before start skips base cs (Ended f) first h = let before = h.before in omega (arith, before, first)
+
+-- the fold of these commits is the walk over them
+fold_goes : (start : Plain) (skips : List Skip) (s : Standing) (cs : Commits) (stop : Stop) → cs.before ≤ start.n → folded (base_of start s) skips cs stop ≡ seen stop (goes start skips (base_at start s) cs)
+fold_goes start skips s cs stop first =
+    let b = base_of start s in
+    let here : start.n - start.n ≡ 0 = omega arith in
+    let level : (start.n == start.n) ≡ true = grind (arith, nat_tests) in
+    walk_is_fold b skips cs stop refl first (commits_after cs start.n) start.n start.scn (base_at start s) (omega arith) refl
+    (ap (λ (m : ℕ). commit_effects skips start.n (base_at start s) (take m (commits_after cs start.n))) here)
+    (ap (λ e. cond e start.scn (option_map_or (λ d. d.scn) (slice_get cs.made (start.n - (cs.before + 1))) start.scn)) level)
+
+ended_stays : (skips : List Skip) (es : List Entry) (f : Folded) → after_records skips es (Ended f) ≡ Ended f
+ended_stays skips [] f = refl
+ended_stays skips (e ∷ es) f = ended_stays skips es f
+
+folds : (start : Plain) (skips : List Skip) (stop : Stop) (es : List Entry) (s : Standing) (hist : History) (p : Progress) → start.before ≤ start.n → Between start skips s hist p →
+    end_of stop (after_records skips es p) ≡ fold_admitted start skips stop (admission s hist es)
+folds start skips stop [] s hist p first b =
+    folds_end start skips (base_at start s) hist.commits stop p b.within.holds
+    ∙ sym (fold_goes start skips s hist.commits stop (first_before start skips (base_at start s) hist.commits p first b.within.holds))
+folds start skips stop (e ∷ es) s hist p first b =
+    elim (record_fault s e) as (λ o. record_fault s e ≡ o → end_of stop (after_records skips es (after_record skips e p))
+    ≡ fold_admitted start skips stop (admitted_or o s hist (admission (record_after e s) (history_after (s.rec + 1) e hist) es))) [
+      | None ↦ λ fits. folds start skips stop es (record_after e s) (history_after (s.rec + 1) e hist) (after_record skips e p) first (record_holds start skips e s hist p first fits b)
+      | Some fault ↦ λ is.
+          let bad : Stop = Malformed (s.rec + 1) (causes.Law fault) in
+          ends_bad start skips stop e es s hist fault p b is
+          ∙ sym (fold_goes start skips s hist.commits bad (first_before start skips (base_at start s) hist.commits p first b.within.holds))
+    ] refl
+  where
+    ends_bad : (start : Plain) (skips : List Skip) (stop : Stop) (e : Entry) (es : List Entry) (s : Standing) (hist : History) (fault : LawFault) (p : Progress) → Between start skips s hist p → record_fault s e ≡ Some fault →
+        end_of stop (after_records skips es (after_record skips e p)) ≡ seen (Malformed (s.rec + 1) (causes.Law fault)) (goes start skips (base_at start s) hist.commits)
+    ends_bad start skips stop e es s hist fault (Ended f) b is = ap (end_of stop) (ended_stays skips es f) ∙ ap (seen (Malformed (s.rec + 1) (causes.Law fault))) (sym b.within.holds.walked)
+    ends_bad start skips stop e es s hist fault (Going a) b is =
+        let same = b.within.tied.judged in
+        ap (λ o. end_of stop (after_records skips es (judged o skips e a))) (ap (λ t. record_fault t e) same ∙ is)
+        ∙ ap (end_of stop) (ended_stays skips es (held_at a (Stopped (Malformed (a.standing.rec + 1) (causes.Law fault)))))
+        ∙ ap (λ (t : Standing). held_at a (Stopped (Malformed (t.rec + 1) (causes.Law fault)))) same
+        ∙ ap (seen (Malformed (s.rec + 1) (causes.Law fault))) (sym b.within.holds.walked)
+
+-- The progress of a fold after any records is the fold of them.
+pub progress_folds : (start : Plain) (skips : List Skip) (entries : List Entry) (stop : Stop) → IsStart start → end_of stop (after start skips entries) ≡ fold_from start skips entries stop
+progress_folds start skips entries stop is =
+    folds start skips stop entries (standing_of start.law) (no_history start.before) (begun start) is.counted (record {
+      within = record {
+        holds = record {
+          before = refl;
+          made = omega arith;
+          least = omega arith;
+          most = is.counted;
+          same = λ past. absurd (omega (arith, past));
+          walked = stands start skips (base_at start (standing_of start.law)) (record { before = start.before; made = [] }) refl;
+        };
+        tied = record { judged = refl; opens = record { rising = nothing_rises; alike = λ y. refl }; lives = record { of = λ y. refl } };
+      };
+      early = record { made = λ part. refl; none = is.none };
+    })

@@ -1,0 +1,10 @@
+pub mod MapLemmas
+pub mod WalkLaws
+pub mod LiveLaws
+pub mod FitLaws
+pub mod HistoryFit
+pub mod DictionaryLaws
+pub mod FoldsLaw
+pub mod TableLaws
+pub mod ApplyLaws
+pub mod StepLaws

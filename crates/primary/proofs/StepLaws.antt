@@ -1,0 +1,238 @@
+-- The step over a record, vector by vector: what holds between two vectors, and what one more makes of it.
+use Rattle.std.proofs.Common.{◌≡◌, ℕ, ◌+◌, ◌≤◌, nat_lt, Err, IfSome, List, [], ◌∷◌, length, refl, sym, ap, ◌∙◌, subst, Bool, true, false, cond, Option, Some, None, unwrap_or, arith}
+use Rattle.rl_value.specs.declared.pos.Pos.{Pos}
+use Rattle.rl_value.specs.declared.cause.LawFault.{LawFault}
+use Rattle.rl_value.specs.declared.cause.Cause.TheVariants as causes
+use Rattle.rl_value.specs.declared.verdict.Stop.TheVariants.{Malformed}
+use Rattle.rl_value.specs.declared.verdict.Verdict.{Verdict}
+use Rattle.rl_value.specs.declared.verdict.Verdict.TheVariants.{Stopped}
+use Rattle.redo_vec.specs.declared.redo_rec.RedoRec.{RedoRec}
+use Rattle.redo_vec.specs.declared.table.TableRow.{TableRow}
+use Rattle.redo_vec.specs.declared.vector.Vector.{Vector}
+use Rattle.redo_vec.specs.declared.vector.Vector.TheVariants.{Start, Change as OfChange, Undo, Commit, Rollback, Table, DictEnd}
+use Rattle.redo_spec.specs.declared.header.Header.{Header}
+use Rattle.redo_spec.specs.Dictionary.{Dictionary}
+use Rattle.redo_spec.specs.Tables.{Tables, assembled, empty_tables, definitions_of}
+use Rattle.redo_law.specs.Calls.{Judges, Leaves}
+use Rattle.redo_law.specs.declared.fault.AdmitFault.{AdmitFault}
+use Rattle.redo_law.specs.declared.fault.AdmitFault.TheVariants as admits
+use Rattle.redo_spec.specs.History.{Placed}
+use Rattle.redo_spec.specs.Standing.{Standing, entered as entered_standing, standing_after, standing_after_all, record_after}
+use Rattle.redo_spec.specs.Law.{dictionary_fault, vector_fault, vectors_fault, whole_fault, record_fault, dictionary_left}
+use Rattle.redo_spec.specs.Skips.{Skip}
+use Rattle.redo_spec.specs.Fold.{known_tables, effects}
+use Rattle.row_apply.specs.Soundness.{AreSound}
+use Rattle.primary.specs.Progress.{OpenChanges, changes_of, Ahead, Progress, Going, Ended, held_at, live_after, commit_of, with_commit, committed, applied, ended_or, tables_or, kept_of, recs_of, vector_taken, after_vector, after_vectors, tables_then, entered, judged, after_record}
+use Rattle.primary.specs.Starts.{tables_shown}
+use Rattle.primary.specs.Running.{AreAccepted, Opens, Fits, IsRunning, MayCommit, ahead_of, tables_of, progress_of}
+use Rattle.primary.specs.declared.running.Running.{Running}
+use Rattle.primary.proofs.FitLaws.{none_first, none_second, no_fault, is_whole, fits_after}
+use Rattle.primary.proofs.DictionaryLaws.{dictionary_kept, dictionary_same, record_keeps, left_same}
+use Rattle.primary.proofs.FoldsLaw.{ended_vectors}
+use Rattle.primary.proofs.WalkLaws.{halted}
+
+pub record Steps (skips : List Skip) (h : Header) (r : RedoRec) (old now : Running) (vec : ℕ) (rest : List Vector) : Type 0 where
+  pub at : Standing
+  pub fits : Fits at now.live
+  pub fault : vectors_fault h vec rest at ≡ None
+  pub last : standing_after_all vec rest at ≡ now.law
+  pub rec : now.rec ≡ now.law.rec
+  pub whole : now.whole ≡ now.law.dictionary.finished
+  pub sound : AreSound (tables_of now)
+  pub none : now.whole ≡ false → now.tables ≡ []
+  pub small : vec + length rest ≤ 256
+  pub goes : after_vectors skips r.scn now.rec vec rest (Going (ahead_of now)) ≡ after_record skips (h, r) (Going (ahead_of old))
+
+pub sound_empty : (ts : List TableRow) → AreSound (empty_tables ts)
+sound_empty [] = tt
+sound_empty (t ∷ ts) = (
+  record {
+    rising = refl;
+    keyed = λ key row found. absurd (cc);
+    fit = λ key row found. absurd (cc);
+    single = λ index columns is key other row like found like_found filled same. absurd (cc);
+  },
+  sound_empty ts,
+)
+
+pub sound_known : (s : Standing) → AreSound (known_tables s)
+sound_known s = by s.dictionary.finished
+  where
+    by : (b : Bool) → AreSound (cond b (empty_tables s.dictionary.tables) [])
+    by true = sound_empty s.dictionary.tables
+    by false = tt
+
+-- as an admitted record begins, the rows show the tables that the progress has
+retabled : (b : Bool) (s : Standing) (h : Header) (r : RedoRec) (old now : Running) → old.whole ≡ b → IsRunning old → record_fault old.law (h, r) ≡ None → now.law ≡ record_after (h, r) old.law → now.tables ≡ old.tables →
+    now.whole ≡ now.law.dictionary.finished → tables_of now ≡ tables_then b (tables_of old) (record_after (h, r) old.law)
+retabled true s h r old now is run fits law tables whole =
+    let same : now.law.dictionary ≡ old.law.dictionary = ap (λ t. t.dictionary) law ∙ record_keeps (h, r) old.law fits (sym run.whole ∙ is) in
+    let still : now.whole ≡ old.whole = whole ∙ ap (λ d. d.finished) same ∙ sym run.whole in
+    λ i. tables_shown (still i) (same i).tables (tables i)
+retabled false s h r old now is run fits law tables whole =
+    let none : now.tables ≡ [] = tables ∙ run.none is in
+    (λ i. tables_shown (whole i) now.law.dictionary.tables (none i)) ∙ ap known_tables law
+
+sound_then : (b : Bool) (tables : Tables) (s : Standing) → AreSound tables → AreSound (tables_then b tables s)
+sound_then true tables s sound = sound
+sound_then false tables s sound = sound_known s
+
+pub rec_all : (vec : ℕ) (vs : List Vector) (s : Standing) → (standing_after_all vec vs s).rec ≡ s.rec
+rec_all vec [] s = refl
+rec_all vec (v ∷ vs) s = rec_all (vec + 1) vs (standing_after vec v s)
+
+pub steps_begin : (skips : List Skip) (h : Header) (r : RedoRec) (old now : Running) → IsRunning old → record_fault old.law (h, r) ≡ None → now.law ≡ record_after (h, r) old.law → now.tables ≡ old.tables →
+    now.live ≡ old.live → now.made ≡ old.made → now.n ≡ old.n → now.scn ≡ old.scn → now.rec ≡ old.rec + 1 → now.whole ≡ now.law.dictionary.finished → length r.vectors ≤ 255 → Steps skips h r old now 1 r.vectors
+steps_begin skips h r old now run fits law tables live made n scn rec whole small =
+    let seen : tables_of now ≡ tables_then old.whole (tables_of old) (record_after (h, r) old.law) = retabled old.whole old.law h r old now refl run fits law tables whole in
+    let shown : tables_of now ≡ tables_then old.law.dictionary.finished (tables_of old) (record_after (h, r) old.law) = seen ∙ ap (λ b. tables_then b (tables_of old) (record_after (h, r) old.law)) run.whole in
+    let P : Tables → Type 0 = λ ts. AreSound ts in
+    let Q : OpenChanges → Type 0 = λ l. Fits (entered_standing (h, r) old.law) l in
+    let number : now.rec ≡ old.law.rec + 1 = rec ∙ ap (λ (k : ℕ). k + 1) run.rec in
+    record {
+      at = entered_standing (h, r) old.law;
+      fits = subst Q (sym live) (record { opens = record { rising = run.fits.opens.rising; alike = run.fits.opens.alike }; accepted = run.fits.accepted; none = run.fits.none });
+      fault = none_second (whole_fault old.law (h, r)) _ fits;
+      last = sym law;
+      rec = number ∙ sym (rec_after (h, r) old.law) ∙ ap (λ s. s.rec) (sym law);
+      whole = whole;
+      sound = subst P (sym seen) (sound_then old.whole (tables_of old) (record_after (h, r) old.law) run.sound);
+      none = λ part. tables ∙ run.none (was_part part);
+      small = omega (arith, small);
+      goes = (λ i. after_vectors skips r.scn (number i) 1 r.vectors (Going (record { standing = law i; live = live i; made = made i; n = n i; scn = scn i; tables = shown i })))
+          ∙ ap (λ o. judged o skips (h, r) (ahead_of old)) (sym fits);
+    }
+  where
+    rec_after : (e : Header × RedoRec) (s : Standing) → (record_after e s).rec ≡ s.rec + 1
+    rec_after (g, q) s = rec_all 1 q.vectors (entered_standing (g, q) s)
+
+    was_part : now.whole ≡ false → old.whole ≡ false
+    was_part part = by old.whole refl
+      where
+        by : (b : Bool) → old.whole ≡ b → b ≡ false
+        by false is = refl
+        by true is =
+            let same : (record_after (h, r) old.law).dictionary ≡ old.law.dictionary = record_keeps (h, r) old.law fits (sym run.whole ∙ is) in
+            let whole_still : now.whole ≡ true = whole ∙ ap (λ s. s.dictionary.finished) law ∙ ap (λ d. d.finished) same ∙ sym run.whole ∙ is in
+            sym whole_still ∙ part
+
+commit_is : (h : Header) (s : Standing) (v : Vector) (live : OpenChanges) (ps : List Placed) → Fits s live → vector_fault h s v ≡ None → commit_of v live ≡ Some ps → (s.dictionary.finished ≡ true) × AreAccepted s.dictionary.tables ps
+commit_is h s (Start x) live ps f fits is = absurd (cc)
+commit_is h s (OfChange c) live ps f fits is = absurd (cc)
+commit_is h s (Undo x) live ps f fits is = absurd (cc)
+commit_is h s (Rollback x) live ps f fits is = absurd (cc)
+commit_is h s (Table t) live ps f fits is = absurd (cc)
+commit_is h s DictEnd live ps f fits is = absurd (cc)
+commit_is h s (Commit x) live ps f fits is =
+    let one : unwrap_or (changes_of x live) [] ≡ ps = cc in
+    (is_whole s.dictionary.finished _ (no_fault _ _ (none_first (dictionary_fault h s (Commit x)) _ fits)), subst (AreAccepted s.dictionary.tables) one (by (changes_of x live) refl))
+  where
+    by : (o : Option (List Placed)) → changes_of x live ≡ o → AreAccepted s.dictionary.tables (unwrap_or o [])
+    by None e = tt
+    by (Some qs) e = f.accepted x qs e
+
+pub commit_may : (skips : List Skip) (h : Header) (r : RedoRec) (old now : Running) (vec : ℕ) (v : Vector) (rest : List Vector) (ps : List Placed) → Steps skips h r old now vec (v ∷ rest) → commit_of v now.live ≡ Some ps → MayCommit now ps
+commit_may skips h r old now vec v rest ps s is =
+    let one = commit_is h s.at v now.live ps s.fits (none_first (vector_fault h s.at v) _ s.fault) is in
+    let same : now.law.dictionary ≡ s.at.dictionary = ap (λ t. t.dictionary) (sym s.last) ∙ dictionary_kept h vec (v ∷ rest) s.at s.fault one.0 in
+    record {
+      whole = s.whole ∙ ap (λ d. d.finished) same ∙ one.0;
+      accepted = subst (λ (d : Dictionary). AreAccepted d.tables ps) (sym same) one.1;
+    }
+
+-- one vector more, without a commit or with one that was applied
+pub steps_more : (skips : List Skip) (h : Header) (r : RedoRec) (old now after : Running) (vec : ℕ) (v : Vector) (rest : List Vector) → Steps skips h r old now vec (v ∷ rest) →
+    after.law ≡ now.law → after.rec ≡ now.rec → after.whole ≡ now.whole → after.live ≡ live_after (record { rec = now.rec; vec = vec }) v now.live → AreSound (tables_of after) → (after.whole ≡ false → after.tables ≡ []) →
+    Going (ahead_of after) ≡ with_commit skips r.scn (commit_of v now.live) (record (ahead_of now) { live = live_after (record { rec = now.rec; vec = vec }) v now.live }) → Steps skips h r old after (vec + 1) rest
+steps_more skips h r old now after vec v rest s law rec whole live sound none goes =
+    let at : Pos = record { rec = now.rec; vec = vec } in
+    let Q : OpenChanges → Type 0 = λ l. Fits (standing_after vec v s.at) l in
+    let small = s.small in
+    record {
+      at = standing_after vec v s.at;
+      fits = subst Q (sym live) (fits_after h vec at v s.at now.live s.fits (none_first (vector_fault h s.at v) _ s.fault));
+      fault = none_second (vector_fault h s.at v) _ s.fault;
+      last = s.last ∙ sym law;
+      rec = rec ∙ s.rec ∙ ap (λ t. t.rec) (sym law);
+      whole = whole ∙ s.whole ∙ ap (λ t. t.dictionary.finished) (sym law);
+      sound = sound;
+      none = none;
+      small = omega (arith, small);
+      goes = (λ i. after_vectors skips r.scn (rec i) (vec + 1) rest (goes i)) ∙ s.goes;
+    }
+
+-- a commit that ends the fold
+pub steps_end : (skips : List Skip) (h : Header) (r : RedoRec) (old now after : Running) (vec : ℕ) (v : Vector) (rest : List Vector) (end : Verdict) → Steps skips h r old now vec (v ∷ rest) →
+    progress_of (Some end) after ≡ with_commit skips r.scn (commit_of v now.live) (record (ahead_of now) { live = live_after (record { rec = now.rec; vec = vec }) v now.live }) →
+    progress_of (Some end) after ≡ after_record skips (h, r) (Going (ahead_of old))
+steps_end skips h r old now after vec v rest end s is =
+    sym (ended_vectors skips r.scn now.rec (vec + 1) rest (held_at (ahead_of after) end)) ∙ ap (λ p. after_vectors skips r.scn now.rec (vec + 1) rest p) is ∙ s.goes
+
+pub steps_done : (skips : List Skip) (h : Header) (r : RedoRec) (old now : Running) (vec : ℕ) → Steps skips h r old now vec [] → IsRunning now
+steps_done skips h r old now vec s =
+    let P : Standing → Type 0 = λ t. Fits t now.live in
+    record { fits = subst P s.last s.fits; whole = s.whole; rec = s.rec; sound = s.sound; none = s.none }
+
+-- a bad record ends the fold, and leaves the tables as they are
+pub bad_ends : (skips : List Skip) (h : Header) (r : RedoRec) (old after : Running) (fault : LawFault) → IsRunning old → record_fault old.law (h, r) ≡ Some fault → after.law.dictionary ≡ dictionary_left old.law (h, r) →
+    after.n ≡ old.n → after.scn ≡ old.scn → after.tables ≡ old.tables → after.whole ≡ old.whole →
+    progress_of (Some (Stopped (Malformed (old.rec + 1) (causes.Law fault)))) after ≡ after_record skips (h, r) (Going (ahead_of old))
+bad_ends skips h r old after fault run is left n scn tables whole =
+    (λ i. Ended (record { n = n i; scn = scn i; tables = shown i; verdict = Stopped (Malformed (run.rec i + 1) (causes.Law fault)) }))
+    ∙ ap (λ o. judged o skips (h, r) (ahead_of old)) (sym is)
+  where
+    by : (b : Bool) → old.whole ≡ b → tables_shown b after.law.dictionary.tables old.tables ≡ tables_shown b old.law.dictionary.tables old.tables
+    by true w = ap (λ d. tables_shown true d.tables old.tables) (left ∙ left_same (h, r) old.law (sym run.whole ∙ w))
+    by false w = refl
+
+    shown : tables_of after ≡ tables_of old
+    shown = (λ i. tables_shown (whole i) after.law.dictionary.tables (tables i)) ∙ by old.whole refl
+
+-- ---- the answers of admission
+
+pub fault_told : (o : Option LawFault) (found : AdmitFault) (fault : LawFault) → found ≡ admits.Law fault → Judges {T = Unit {0}} o (Err found) → o ≡ Some fault
+fault_told o found fault is told = let P : AdmitFault → Type 0 = λ f. Judges {T = Unit {0}} o (Err f) in subst P is told
+
+pub left_told : (want left : Dictionary) (found : AdmitFault) (fault : LawFault) → found ≡ admits.Law fault → Leaves {T = Unit {0}} want left (Err found) → left ≡ want
+left_told want left found fault is told = let P : AdmitFault → Type 0 = λ f. Leaves {T = Unit {0}} want left (Err f) in subst P is told
+
+pub may_commit : (skips : List Skip) (h : Header) (r : RedoRec) (old now : Running) (live : OpenChanges) (vec : ℕ) (v : Vector) (rest : List Vector) (o : Option (List Placed)) → Steps skips h r old now vec (v ∷ rest) → o ≡ commit_of v now.live →
+    IfSome o (λ ps. MayCommit (record now { live = live }) ps)
+may_commit skips h r old now live vec v rest None s is = tt
+may_commit skips h r old now live vec v rest (Some ps) s is =
+    let one = commit_may skips h r old now vec v rest ps s (sym is) in
+    record { whole = one.whole; accepted = one.accepted }
+
+-- ---- how many records were taken
+
+recs_committed : (skips : List Skip) (scn : ℕ) (o : Option (List Placed)) (a : Ahead) → recs_of (with_commit skips scn o a) ≤ a.standing.rec
+recs_committed skips scn None a = omega arith
+recs_committed skips scn (Some ps) a =
+    elim (nat_lt a.made a.n) as (λ b. recs_of (cond b (Going (record a { made = a.made + 1 })) (applied scn (effects a.tables (kept_of skips (definitions_of a.tables) a.n ps)) a)) ≤ a.standing.rec) [
+      | true ↦ omega arith
+      | false ↦ by (halted scn (effects a.tables (kept_of skips (definitions_of a.tables) a.n ps)))
+    ]
+  where
+    by : (o : Option Verdict) → recs_of (ended_or o scn (tables_or a.tables (effects a.tables (kept_of skips (definitions_of a.tables) a.n ps))) a) ≤ a.standing.rec
+    by None = omega arith
+    by (Some v) = omega arith
+
+recs_vectors : (skips : List Skip) (scn rec vec : ℕ) (vs : List Vector) (p : Progress) → recs_of (after_vectors skips scn rec vec vs p) ≤ recs_of p
+recs_vectors skips scn rec vec [] p = omega arith
+recs_vectors skips scn rec vec (v ∷ vs) (Ended f) = recs_vectors skips scn rec (vec + 1) vs (Ended f)
+recs_vectors skips scn rec vec (v ∷ vs) (Going a) =
+    let at : Pos = record { rec = rec; vec = vec } in
+    let one = recs_committed skips scn (commit_of v a.live) (record a { live = live_after at v a.live }) in
+    let later = recs_vectors skips scn rec (vec + 1) vs (vector_taken skips scn at v a) in
+    omega (arith, one, later)
+
+pub recs_after : (skips : List Skip) (h : Header) (r : RedoRec) (p : Progress) → recs_of (after_record skips (h, r) p) ≤ recs_of p + 1
+recs_after skips h r (Ended f) = omega arith
+recs_after skips h r (Going a) = by (record_fault a.standing (h, r))
+  where
+    by : (o : Option LawFault) → recs_of (judged o skips (h, r) a) ≤ a.standing.rec + 1
+    by (Some fault) = omega arith
+    by None =
+        let all = rec_all 1 r.vectors (entered_standing (h, r) a.standing) in
+        let later = recs_vectors skips r.scn (a.standing.rec + 1) 1 r.vectors (Going (entered (h, r) a)) in
+        omega (arith, all, later)

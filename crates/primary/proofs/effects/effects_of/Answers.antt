@@ -1,0 +1,24 @@
+use Rattle.std.proofs.Common.{◌≡◌, ◌∙◌, sym, subst, ap, [], true}
+use Rattle.redo_spec.specs.Tables.{Tables, assembled}
+use Rattle.redo_spec.specs.Fold.{effects}
+use Rattle.row_apply.specs.Overlaid.{overlaid, are_of}
+use Rattle.row_apply.specs.Soundness.{AreSound}
+use Rattle.primary.specs.Progress.{kept_of}
+use Rattle.primary.proofs.TableLaws.{definitions_assembled, overlaid_none}
+use Rattle.primary.proofs.effects.effects_of.Goals as goal
+
+pub loop-rest-init : goal.loop-rest-init
+loop-rest-init c =
+    let ts = c.args.base.now.dict.now.tables in
+    let tables = assembled ts c.args.base.now.tables.now in
+    let none : overlaid tables c.args.over.now ≡ tables = ap (overlaid tables) c.requires.empty ∙ overlaid_none tables in
+    let P : Tables → Type 0 = λ us. AreSound us in
+    record {
+      same = ap (λ us. effects us (kept_of c.args.skips.now ts c.args.n c.args.changes.now)) (sym none);
+      sound = subst P (sym none) c.requires.sound;
+      of_tables = ap (are_of ts) c.requires.empty;
+      accepted = c.requires.accepted;
+    }
+
+pub effect-requires-clause-definitions : goal.effect-requires-clause-definitions
+effect-requires-clause-definitions c = definitions_assembled c.args.base.now.dict.now.tables c.args.base.now.tables.now

@@ -1,0 +1,5 @@
+use Rattle.primary.proofs.FoldsLaw.{progress_folds}
+use Rattle.primary.proofs.laws.the_evaluator_folds.Goals as goal
+
+pub returns : goal.returns
+returns c = progress_folds

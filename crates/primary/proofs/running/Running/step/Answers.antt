@@ -1,0 +1,52 @@
+use Rattle.std.proofs.Common.{◌≡◌, ◌∙◌, ◌+◌, ◌∷◌, sym, ap, subst, Option, Some, None, refl, List}
+use Rattle.std.specs.Vec.Iter.{into_iter_items}
+use Rattle.rl_value.specs.declared.verdict.Verdict.{Verdict}
+use Rattle.redo_vec.specs.declared.vector.Vector.{Vector}
+use Rattle.redo_spec.specs.History.{Placed}
+use Rattle.primary.specs.Progress.{OpenChanges, Progress, Going, with_commit, commit_of, live_after}
+use Rattle.primary.specs.Running.{ahead_of, progress_of}
+use Rattle.primary.specs.declared.running.Running.{Running}
+use Rattle.primary.proofs.StepLaws.{Steps, bad_ends, fault_told, left_told, steps_begin, steps_more, may_commit}
+use Rattle.primary.proofs.running.Running.step.Goals as goal
+
+pub returns-in-Err-Law-clause-taken : goal.returns-in-Err-Law-clause-taken
+returns-in-Err-Law-clause-taken c =
+    let old = c.args.self.now in
+    bad_ends c.args.skips.now c.args.head.now c.args.rec old (record old { law = c.admit.new.self }) c.in-Err-Law.fault c.requires.running
+    (fault_told _ c.in-Err-Law.field-0 c.in-Err-Law.fault c.in-Err-Law.field-0-is c.in-Err-Law.ensures.exact)
+    (left_told _ _ c.in-Err-Law.field-0 c.in-Err-Law.fault c.in-Err-Law.field-0-is c.in-Err-Law.ensures.left)
+    refl refl refl refl
+
+pub loop-vector-init : goal.loop-vector-init
+loop-vector-init c =
+    let old = c.args.self.now in
+    let now : Running = record old { law = c.admit.new.self; rec = old.rec + 1; whole = c.finished-self.result } in
+    let gives : into_iter_items c.into_iter-vector-iterator.result ≡ c.into_items-vector-items.result.items = c.into_iter-vector-iterator.ensures.into_iter_gives.0 in
+    let all : into_iter_items c.into_iter-vector-iterator.result ≡ c.args.rec.vectors = gives ∙ c.into_items-vector-items.ensures.same in
+    let P : List Vector → Type 0 = λ vs. Steps c.args.skips.now c.args.head.now c.args.rec old now 1 vs in
+    subst P (sym all)
+    (steps_begin c.args.skips.now c.args.head.now c.args.rec old now c.requires.running (c.in-Ok.ensures).exact (c.in-Ok.ensures).admitted refl refl refl refl refl refl
+    (c.finished-self.ensures ∙ ap (λ d. d.finished) c.dict.ensures) c.into_items-vector-items.ensures.most)
+
+pub apply_commit-requires-clause-may : goal.apply_commit-requires-clause-may
+apply_commit-requires-clause-may c =
+    let old = c.args.self.now in
+    let rest = into_iter_items c.next.new.self in
+    let next : into_iter_items c.loop-vector.vector-iterator ≡ c.in-Some.vector ∷ rest = c.in-Some.ensures.steps.0 in
+    let P : List Vector → Type 0 = λ vs. Steps c.args.skips.now c.args.head.now c.args.rec old c.loop-vector.self c.loop-vector.vec vs in
+    may_commit c.args.skips.now c.args.head.now c.args.rec old c.loop-vector.self c.take.new.self c.loop-vector.vec c.in-Some.vector rest c.in_ok-commit.commit (subst P next c.loop-vector.invariant) c.in_ok-commit.ensures.commit
+
+pub loop-vector-preserved : goal.loop-vector-preserved
+loop-vector-preserved c =
+    let old = c.args.self.now in
+    let now = c.loop-vector.self in
+    let rest = into_iter_items c.next.new.self in
+    let next : into_iter_items c.loop-vector.vector-iterator ≡ c.in-Some.vector ∷ rest = c.in-Some.ensures.steps.0 in
+    let P : List Vector → Type 0 = λ vs. Steps c.args.skips.now c.args.head.now c.args.rec old now c.loop-vector.vec vs in
+    let done = c.in_ok-verdict.ensures in
+    let goes : Going (ahead_of c.apply_commit.new.self) ≡ with_commit c.args.skips.now c.args.rec.scn c.in_ok-commit.commit (ahead_of (record now { live = c.take.new.self })) =
+    ap (λ (o : Option Verdict). progress_of o c.apply_commit.new.self) (sym c.in_default.is) ∙ done.taken in
+    let live : c.take.new.self ≡ live_after (record { rec = now.rec; vec = c.loop-vector.vec }) c.in-Some.vector now.live = c.in_ok-commit.ensures.live in
+    steps_more c.args.skips.now c.args.head.now c.args.rec old now c.apply_commit.new.self c.loop-vector.vec c.in-Some.vector rest (subst P next c.loop-vector.invariant)
+    done.law done.rec done.whole (done.live ∙ live) done.sound done.none
+    (goes ∙ (λ i. with_commit c.args.skips.now c.args.rec.scn (c.in_ok-commit.ensures.commit i) (record (ahead_of now) { live = live i })))

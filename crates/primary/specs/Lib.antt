@@ -1,0 +1,4 @@
+pub mod ById
+pub mod Progress
+pub mod Starts
+pub mod Running

@@ -1,0 +1,175 @@
+-- How far a fold has come between two records, and what one more record makes of it.
+-- It goes on with what the records so far leave: the standing, the surviving changes of each open transaction, how many
+-- commits there were, and count, SCN and tables after the last one that was applied. Or it has ended, by the first bad
+-- record, a miss or the row limit, and then nothing changes any more. Commits numbered at most the count where it begins
+-- change nothing.
+use Rattle.std.specs.Prelude.{ℕ, ◌+◌, List, [], ◌∷◌, ◌++◌, length, map, filter, fold, take, Bool, true, false, not, ◌-◌, nat_lt, if◌then◌else◌, Option, Some, None, Result, Ok, Err, unwrap_or}
+use Rattle.std.specs.declared.cmp.Ordering.{Ordering}
+use Rattle.std.specs.Ordering.{nat_cmp, on, then_cmp}
+use Rattle.std.specs.Map.{lookup, remove_entry, set_value}
+use Rattle.std.specs.BTreeMap.{insert_entry, is_at}
+use Rattle.rl_value.specs.declared.pos.Pos.{Pos}
+use Rattle.rl_value.specs.declared.xid.Xid.{Xid}
+use Rattle.rl_value.specs.declared.cause.LawFault.{LawFault}
+use Rattle.rl_value.specs.declared.cause.Cause.TheVariants as causes
+use Rattle.rl_value.specs.declared.verdict.Stop.{Stop}
+use Rattle.rl_value.specs.declared.verdict.Stop.TheVariants.{Malformed}
+use Rattle.rl_value.specs.declared.verdict.Verdict.{Verdict}
+use Rattle.rl_value.specs.declared.verdict.Verdict.TheVariants.{Stopped}
+use Rattle.rl_value.specs.Outcome.{map_ok}
+use Rattle.redo_vec.specs.declared.change.Change.{Change}
+use Rattle.redo_vec.specs.declared.table.TableRow.{TableRow}
+use Rattle.redo_vec.specs.declared.vector.Vector.{Vector}
+use Rattle.redo_vec.specs.declared.vector.Vector.TheVariants.{Start, Change as OfChange, Undo, Commit, Rollback, Table, DictEnd}
+use Rattle.redo_spec.specs.Tables.{Tables, row_count, definitions_of}
+use Rattle.redo_spec.specs.History.{Entry, Placed}
+use Rattle.redo_spec.specs.Standing.{Standing, record_after}
+use Rattle.redo_spec.specs.Survivors.{after_change, after_undo}
+use Rattle.redo_spec.specs.Law.{record_fault}
+use Rattle.redo_spec.specs.Skips.{Skip, is_skipped}
+use Rattle.redo_spec.specs.Fold.{Folded, Missed, effects, stop_of, known_tables}
+
+-- transaction ids in order
+abbrev pub xid_cmp : Xid → Xid → Ordering
+xid_cmp = then_cmp (on (λ x. x.usn) nat_cmp) (then_cmp (on (λ x. x.slot) nat_cmp) (on (λ x. x.sqn) nat_cmp))
+
+-- the surviving changes of each open transaction, by its id
+abbrev pub OpenChanges : Type 0
+OpenChanges = List (Xid × List Placed)
+
+-- those of this transaction, if it is open
+abbrev pub changes_of : Xid → OpenChanges → Option (List Placed)
+changes_of x live = lookup (is_at (xid_cmp x)) live
+
+abbrev pub opened : Xid → OpenChanges → OpenChanges
+opened x live = insert_entry xid_cmp live x []
+
+abbrev pub closed : Xid → OpenChanges → OpenChanges
+closed x live = remove_entry (is_at (xid_cmp x)) live
+
+-- with other changes of a transaction that is open
+abbrev pub rechanged : Xid → (List Placed → List Placed) → OpenChanges → Option (List Placed) → OpenChanges
+rechanged x f live None = live
+rechanged x f live (Some ps) = set_value (is_at (xid_cmp x)) live (f ps)
+
+-- a fold that goes on
+pub record Ahead : Type 0 where
+  pub standing : Standing
+  pub live : OpenChanges
+  pub made : ℕ
+  pub n : ℕ
+  pub scn : ℕ
+  pub tables : Tables
+
+-- a fold that goes on, or one that has ended
+pub data Progress : Type 0 where
+  Going : Ahead → Progress
+  Ended : Folded → Progress
+
+abbrev pub is_going : Progress → Bool
+is_going (Going a) = true
+is_going (Ended f) = false
+
+-- how many records were taken, over the whole redo, as long as it goes on
+abbrev pub recs_of : Progress → ℕ
+recs_of (Going a) = a.standing.rec
+recs_of (Ended f) = 0
+
+-- the fold that comes no further than here
+abbrev pub held_at : Ahead → Verdict → Folded
+held_at a v = record { n = a.n; scn = a.scn; tables = a.tables; verdict = v }
+
+-- ---- a commit
+
+-- the changes of the commit after n that are not passed over
+abbrev pub kept_of : List Skip → List TableRow → ℕ → List Placed → List Placed
+kept_of skips tables n ps = filter (λ p. not (is_skipped skips tables n p)) ps
+
+abbrev pub tables_or : Tables → Result Tables Missed → Tables
+tables_or tables (Ok after) = after
+tables_or tables (Err missed) = tables
+
+abbrev pub ended_or : Option Verdict → ℕ → Tables → Ahead → Progress
+ended_or (Some v) scn after a = Ended (held_at a v)
+ended_or None scn after a = Going (record a { made = a.made + 1; n = a.n + 1; scn = scn; tables = after })
+
+-- after the kept changes of the next commit, which may miss
+abbrev pub applied : ℕ → Result Tables Missed → Ahead → Progress
+applied scn r a = ended_or (stop_of scn (map_ok row_count r)) scn (tables_or a.tables r) a
+
+-- after the commit of these changes at this SCN
+abbrev pub committed : List Skip → ℕ → List Placed → Ahead → Progress
+committed skips scn ps a =
+    if nat_lt a.made a.n then Going (record a { made = a.made + 1 })
+    else applied scn (effects a.tables (kept_of skips (definitions_of a.tables) a.n ps)) a
+
+-- ---- a record
+
+-- the surviving changes after one more vector, at this position
+abbrev pub live_after : Pos → Vector → OpenChanges → OpenChanges
+live_after at (Start x) live = opened x live
+live_after at (OfChange c) live = rechanged c.xid (λ ps. after_change ps (at, c)) live (changes_of c.xid live)
+live_after at (Undo x) live = rechanged x after_undo live (changes_of x live)
+live_after at (Commit x) live = closed x live
+live_after at (Rollback x) live = closed x live
+live_after at (Table t) live = live
+live_after at DictEnd live = live
+
+-- the changes that a vector commits, if it is a COMMIT
+abbrev pub commit_of : Vector → OpenChanges → Option (List Placed)
+commit_of (Start x) live = None
+commit_of (OfChange c) live = None
+commit_of (Undo x) live = None
+commit_of (Commit x) live = Some (unwrap_or (changes_of x live) [])
+commit_of (Rollback x) live = None
+commit_of (Table t) live = None
+commit_of DictEnd live = None
+
+abbrev pub with_commit : List Skip → ℕ → Option (List Placed) → Ahead → Progress
+with_commit skips scn None a = Going a
+with_commit skips scn (Some ps) a = committed skips scn ps a
+
+-- after one more vector, at this position in a record of this SCN
+abbrev pub vector_taken : List Skip → ℕ → Pos → Vector → Ahead → Progress
+vector_taken skips scn at v a = with_commit skips scn (commit_of v a.live) (record a { live = live_after at v a.live })
+
+abbrev pub after_vector : List Skip → ℕ → Pos → Vector → Progress → Progress
+after_vector skips scn at v (Going a) = vector_taken skips scn at v a
+after_vector skips scn at v (Ended f) = Ended f
+
+-- after these vectors, the first of which has this number in record rec
+abbrev pub after_vectors : List Skip → ℕ → ℕ → ℕ → List Vector → Progress → Progress
+after_vectors skips scn rec vec [] p = p
+after_vectors skips scn rec vec (v ∷ vs) p = after_vectors skips scn rec (vec + 1) vs (after_vector skips scn (record { rec = rec; vec = vec }) v p)
+
+-- the tables are known with the end of the dictionary, and have no rows then
+abbrev pub tables_then : Bool → Tables → Standing → Tables
+tables_then true tables s = tables
+tables_then false tables s = known_tables s
+
+-- as an admitted record begins
+abbrev pub entered : Entry → Ahead → Ahead
+entered e a = record a {
+  standing = record_after e a.standing;
+  tables = tables_then a.standing.dictionary.finished a.tables (record_after e a.standing);
+}
+
+-- after a record that is admitted, or is bad
+abbrev pub judged : Option LawFault → List Skip → Entry → Ahead → Progress
+judged (Some fault) skips e a = Ended (held_at a (Stopped (Malformed (a.standing.rec + 1) (causes.Law fault))))
+judged None skips (h, r) a = after_vectors skips r.scn (a.standing.rec + 1) 1 r.vectors (Going (entered (h, r) a))
+
+-- after one more record
+abbrev pub after_record : List Skip → Entry → Progress → Progress
+after_record skips e (Going a) = judged (record_fault a.standing e) skips e a
+after_record skips e (Ended f) = Ended f
+
+-- after these records
+abbrev pub after_records : List Skip → List Entry → Progress → Progress
+after_records skips [] p = p
+after_records skips (e ∷ es) p = after_records skips es (after_record skips e p)
+
+-- the fold, where the redo's records end so
+abbrev pub end_of : Stop → Progress → Folded
+end_of stop (Going a) = held_at a (Stopped stop)
+end_of stop (Ended f) = f

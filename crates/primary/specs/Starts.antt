@@ -1,0 +1,71 @@
+-- Where a plain fold begins, and what it gives: `folded` of redo_spec, over the tables that the rows show there.
+use Rattle.std.specs.Prelude.{◌≡◌, ℕ, ◌≤◌, List, [], true, false, Bool, if◌then◌else◌, None}
+use Rattle.rl_value.specs.declared.verdict.Stop.{Stop}
+use Rattle.redo_vec.specs.declared.table.TableRow.{TableRow}
+use Rattle.redo_spec.specs.Dictionary.{Dictionary, no_dictionary}
+use Rattle.redo_spec.specs.Tables.{RowsById, Tables, assembled}
+use Rattle.redo_spec.specs.History.{Entry, no_history}
+use Rattle.redo_spec.specs.Standing.{Standing}
+use Rattle.redo_spec.specs.Law.{Admitted, admission}
+use Rattle.redo_spec.specs.Skips.{Skip}
+use Rattle.redo_spec.specs.Fold.{Base, Folded, folded, redo_end}
+use Rattle.redo_law.specs.Calls.{standing_of}
+use Rattle.row_apply.specs.Soundness.{AreSound}
+use Rattle.primary.specs.declared.plain.Plain.{Plain}
+use Rattle.primary.specs.declared.plain.Folded.{Folded as Plainly}
+use Rattle.primary.specs.Progress.{Progress, Ahead, Going, after_records}
+
+-- the tables of these rows, where the dictionary is whole, and else none
+abbrev pub tables_shown : Bool → List TableRow → RowsById → Tables
+tables_shown whole tables rows = if whole then assembled tables rows else []
+
+-- what a plain fold says
+abbrev pub shown : Plainly → Folded
+shown f = record { n = f.n; scn = f.scn; tables = assembled f.dict.tables f.tables; verdict = f.end }
+
+-- the base of a fold that begins so, by the dictionary that its records leave
+abbrev pub base_of : Plain → Standing → Base
+base_of start s = record { tables = tables_shown s.dictionary.finished s.dictionary.tables start.tables; n = start.n; scn = start.scn; local = [] }
+
+abbrev pub fold_admitted : Plain → List Skip → Stop → Admitted → Folded
+fold_admitted start skips stop a = folded (base_of start a.standing) skips a.history.commits (redo_end a stop)
+
+-- the fold of these records from there on
+abbrev pub fold_from : Plain → List Skip → List Entry → Stop → Folded
+fold_from start skips entries stop = fold_admitted start skips stop (admission (standing_of start.law) (no_history start.before) entries)
+
+-- A fold may begin so: the tables that its rows show are sound, and there are no rows before the dictionary is whole; no
+-- more commits stand before than the count has.
+pub record IsStart (start : Plain) : Type 0 where
+  pub sound : start.law.dict.finished ≡ true → AreSound (assembled start.law.dict.tables start.tables)
+  pub none : start.law.dict.finished ≡ false → start.tables ≡ []
+  pub counted : start.before ≤ start.n
+
+-- what a fold goes on with that begins so
+abbrev pub first_ahead : Plain → Ahead
+first_ahead start = record {
+  standing = standing_of start.law;
+  live = [];
+  made = start.before;
+  n = start.n;
+  scn = start.scn;
+  tables = tables_shown start.law.dict.finished start.law.dict.tables start.tables;
+}
+
+-- the progress of a fold that begins so, before its first record
+abbrev pub begun : Plain → Progress
+begun start = Going (first_ahead start)
+
+-- the progress of a fold that began so, after these records
+abbrev pub after : Plain → List Skip → List Entry → Progress
+after start skips entries = after_records skips entries (begun start)
+
+-- the start before the first record of a redo whose first log has this sequence and follows this SCN, over empty tables
+abbrev pub first_start : ℕ → ℕ → Plain
+first_start first base = record {
+  law = record { first = first; base = base; dict = no_dictionary; head = None; rec = 0; known = 0; scn = base; commit_scn = base };
+  before = 0;
+  n = 0;
+  scn = base;
+  tables = [];
+}

@@ -1,0 +1,61 @@
+//! The effects of a commit's changes, over rows that stay as they are.
+ghost use Rattle.std.specs.Prelude.{◌≡◌, ◌<◌, [], Ok, Err, None, OnOk, IfErr, IsTrue};
+ghost use Rattle.redo_spec.specs.Tables.{definitions_of, assembled};
+ghost use Rattle.redo_spec.specs.Fold.{effects};
+ghost use Rattle.row_apply.specs.Overlaid.{overlaid, are_of};
+ghost use Rattle.row_apply.specs.Soundness.{AreSound};
+ghost use Rattle.primary.specs.Progress.{kept_of};
+ghost use Rattle.primary.specs.Running.{AreAccepted, TellsMiss};
+
+use crate::based::Based;
+use redo_dict::Dict;
+use redo_vec::Change;
+use rl_value::{Miss, Pos};
+use row_apply::{EffectFault, Overlay, effect};
+use skip_guard::Skips;
+
+/// Why changes are not all done.
+#[derive(Drop)]
+pub enum EffectsFault {
+    /// The change at this position, of this table, misses.
+    Missed { pos: Pos, table: u32, miss: Miss },
+    /// Want of memory.
+    Memory,
+}
+
+/// Does the changes of the commit after n that are not passed over, one after another, over the rows of the base.
+pub fn effects_of(
+    base: &Based,
+    skips: &Skips,
+    n: u64,
+    changes: &[(Pos, Change)],
+    over: &mut Overlay,
+) -> Result<(), EffectsFault>
+    requires empty { over.old ≡ [] }
+    requires accepted { AreAccepted base.now.dict.now.tables changes.now }
+    requires sound { AreSound (assembled base.now.dict.now.tables base.now.tables.now) }
+    ensures done { OnOk result (effects (assembled base.now.dict.now.tables base.now.tables.now) (kept_of skips.now base.now.dict.now.tables n changes.now)
+        ≡ Ok (overlaid (assembled base.now.dict.now.tables base.now.tables.now) over.new)) }
+    ensures missed { IfErr result (TellsMiss (effects (assembled base.now.dict.now.tables base.now.tables.now) (kept_of skips.now base.now.dict.now.tables n changes.now))) }
+    ensures sound { OnOk result (AreSound (overlaid (assembled base.now.dict.now.tables base.now.tables.now) over.new)) }
+    ensures of_tables { OnOk result (IsTrue (are_of base.now.dict.now.tables over.new)) }
+{
+    let mut rest = changes;
+    while let [(pos, change), more @ ..] = rest {
+        if !skips.skipped(base.dict, change, n) {
+            match effect(base, base.dict, over, change) {
+                Ok(()) => {}
+                Err(EffectFault::Memory) => return Err(EffectsFault::Memory),
+                Err(EffectFault::Miss(miss)) => {
+                    return Err(EffectsFault::Missed {
+                        pos: *pos,
+                        table: change.table,
+                        miss,
+                    });
+                }
+            }
+        }
+        rest = more;
+    }
+    Ok(())
+}

@@ -1,0 +1,142 @@
+//! The evaluator, which takes the records of a redo one by one.
+ghost use Rattle.std.specs.Prelude.{◌≡◌, ◌+◌, ◌<◌, ◌≤◌, ◌^◌, [], IfOk, OnOk, if◌then◌else◌};
+ghost use Rattle.primary.specs.Progress.{is_going, recs_of, after_record, end_of};
+ghost use Rattle.primary.specs.Starts.{IsStart, begun, shown};
+
+use crate::live_changes::LiveChanges;
+use crate::plain::{Folded, Plain};
+use crate::running::Running;
+use redo_dict::Dict;
+use redo_law::Law;
+use redo_spec::Header;
+use redo_vec::RedoRec;
+use rl_value::{NoMemory, Stop, Verdict};
+use skip_guard::Skips;
+use std::alloc::Global;
+use std::marker::Model;
+
+/// A fold between two records. It is seen as how far it has come.
+#[derive(Drop)]
+pub struct Evaluator {
+    run: Running,
+    end: Option<Verdict>,
+}
+
+impl Model for Evaluator {
+    ghost use Rattle.std.specs.Prelude.{◌≡◌, None};
+    ghost use Rattle.primary.specs.Progress.{Progress};
+    ghost use Rattle.primary.specs.Running.{IsRunning, progress_of};
+
+    ghost Value = { Progress };
+
+    ghost view = { λ e. progress_of e.end e.run };
+
+    ghost invariant = { λ e. e.end ≡ None → IsRunning e.run };
+}
+
+impl Evaluator {
+    /// A fold that begins so. Where there is no memory, the start is dropped.
+    pub fn new(alloc: Global, start: Plain) -> Result<Evaluator, NoMemory>
+        requires { IsStart start }
+        ensures { IfOk result (λ fold. fold ≡ begun start) }
+    {
+        let Plain {
+            law,
+            before,
+            n,
+            scn,
+            tables,
+        } = start;
+        let rec = law.rec;
+        let law = match Law::new(alloc, law) {
+            Ok(law) => law,
+            Err(_) => return Err(NoMemory),
+        };
+        let whole = law.dict().finished();
+        let run = Running {
+            alloc,
+            law,
+            rec,
+            live: LiveChanges::new(alloc),
+            made: before,
+            n,
+            scn,
+            tables,
+            whole,
+        };
+        Ok(Evaluator { run, end: None })
+    }
+
+    /// Takes the next record of the redo, in a log of this header. It answers whether the fold goes on: it has ended with a
+    /// bad record, a miss or the row limit, and then later records change nothing. After want of memory nothing is said of
+    /// it any more.
+    #[tactic(auto, using(crate::proofs::StepLaws::recs_after))]
+    pub fn take(&mut self, head: &Header, rec: RedoRec, skips: &Skips) -> Result<bool, NoMemory>
+        requires { recs_of self.old + 1 < 2 ^ 64 }
+        ensures taken { OnOk result (self.new ≡ after_record skips.now (head.now, rec) self.old) }
+        ensures going { IfOk result (λ going. going ≡ is_going self.new) }
+        ensures records { OnOk result (recs_of self.new ≤ recs_of self.old + 1) }
+    {
+        if self.end.is_some() {
+            return Ok(false);
+        }
+        match self.run.step(head, rec, skips) {
+            Ok(None) => Ok(true),
+            Ok(Some(verdict)) => {
+                self.end = Some(verdict);
+                Ok(false)
+            }
+            Err(NoMemory) => {
+                // What is left is of no use, and no later record may come to it.
+                self.end = Some(Verdict::Stopped(Stop::Drained));
+                Err(NoMemory)
+            }
+        }
+    }
+
+    /// The fold, where the redo's records end so.
+    pub fn finish(self, stop: Stop) -> Folded
+        ensures { shown result ≡ end_of stop self }
+    {
+        let Evaluator { run, end } = self;
+        let Running {
+            alloc,
+            law,
+            rec: _,
+            live: _,
+            made: _,
+            n,
+            scn,
+            tables,
+            whole,
+        } = run;
+        let dict = shown_by(alloc, law, whole);
+        match end {
+            None => Folded {
+                n,
+                scn,
+                tables,
+                dict,
+                end: Verdict::Stopped(stop),
+            },
+            Some(end) => Folded {
+                n,
+                scn,
+                tables,
+                dict,
+                end,
+            },
+        }
+    }
+}
+
+// The dictionary by which rows are shown: none of its tables is, where it was not whole.
+fn shown_by(alloc: Global, law: Law, whole: bool) -> Dict
+    ensures { result.tables ≡ (if whole then law.dictionary.tables else []) }
+{
+    if whole {
+        law.into_dict()
+    } else {
+        Dict::new(alloc)
+    }
+}

@@ -1,0 +1,19 @@
+//! The plain evaluator: committed transactions one after another over ordered maps, a reference for every other way.
+#![tactic(auto)]
+
+mod based;
+mod effects;
+mod evaluator;
+pub mod laws;
+mod live_changes;
+mod plain;
+mod plain_fold;
+mod plain_rows;
+mod plain_tables;
+mod running;
+mod writing;
+
+pub use evaluator::Evaluator;
+pub use plain::{Folded, Plain};
+pub use plain_fold::fold_plain;
+pub use plain_tables::{PlainList, PlainTables};

@@ -1,0 +1,33 @@
+//! The fold of a list of records.
+ghost use Rattle.std.specs.Prelude.{◌≡◌, ◌+◌, ◌<◌, ◌^◌, length, IfOk};
+ghost use Rattle.rl_value.specs.declared.verdict.Stop.TheVariants.{Drained};
+ghost use Rattle.primary.specs.Starts.{IsStart, fold_from, shown};
+
+use crate::evaluator::Evaluator;
+use crate::laws::the_evaluator_folds;
+use crate::plain::{Folded, Plain};
+use redo_spec::Header;
+use redo_vec::RedoRec;
+use rl_value::{NoMemory, Stop};
+use skip_guard::Skips;
+use std::alloc::Global;
+
+/// The fold of these records from the start on, with all of the redo read.
+pub fn fold_plain(
+    alloc: Global,
+    start: Plain,
+    recs: &[(Header, RedoRec)],
+    skips: &Skips,
+) -> Result<Folded, NoMemory>
+    requires fits { IsStart start }
+    requires few { start.law.rec + length recs.now < 2 ^ 64 }
+    ensures { IfOk result (λ folded. shown folded ≡ fold_from start skips.now recs.now Drained) }
+{
+    let mut fold = Evaluator::new(alloc, start)?;
+    for (head, rec) in recs {
+        let _ = fold.take(head, rec.copy()?, skips)?;
+    }
+    let folded = fold.finish(Stop::Drained);
+    the_evaluator_folds();
+    Ok(folded)
+}

@@ -1,0 +1,174 @@
+//! A fold that goes on: what it keeps between two records, and the step over one.
+use crate::based::Based;
+use crate::effects::{EffectsFault, effects_of};
+use crate::live_changes::{LiveChanges, Survivors};
+use crate::plain_tables::PlainTables;
+use crate::writing::put_in;
+use redo_law::{AdmitFault, Law};
+use redo_spec::Header;
+use redo_vec::{Change, RedoRec};
+use rl_value::{Cause, NoMemory, Pos, Scn, Stop, Verdict};
+use row_apply::{Overlay, Writes};
+use skip_guard::Skips;
+use std::alloc::Global;
+
+/// What a fold keeps as long as it goes on.
+#[derive(Drop)]
+pub struct Running {
+    pub alloc: Global,
+    pub law: Law,
+    /// How many records were admitted, over the whole redo.
+    pub rec: u64,
+    pub live: LiveChanges,
+    /// How many commits there were, over the whole redo.
+    pub made: u64,
+    pub n: u64,
+    pub scn: Scn,
+    pub tables: PlainTables,
+    /// The dictionary is whole.
+    pub whole: bool,
+}
+
+impl Running {
+    ghost use Rattle.std.specs.Prelude.{◌≡◌, ◌+◌, ◌<◌, ◌^◌, [], None, Ok, true, false, IfOk, IfErr, IfSome};
+    ghost use Rattle.redo_spec.specs.Tables.{assembled};
+    ghost use Rattle.redo_spec.specs.Fold.{effects};
+    ghost use Rattle.row_apply.specs.Overlaid.{overlaid};
+    ghost use Rattle.row_apply.specs.Soundness.{AreSound};
+    ghost use Rattle.primary.specs.Progress.{committed, kept_of, with_commit, after_record, Going};
+    ghost use Rattle.primary.specs.Running.{AreAccepted, TellsMiss, ahead_of, progress_of, tables_of, IsRunning, MayCommit};
+
+    // What the changes of the next commit write that are not passed over.
+    fn writes_of(&self, skips: &Skips, changes: &[(Pos, Change)]) -> Result<Writes, EffectsFault>
+        requires accepted { AreAccepted self.now.law.dictionary.tables changes.now }
+        requires sound { AreSound (assembled self.now.law.dictionary.tables self.now.tables) }
+        ensures done { IfOk result (λ writes. effects (assembled self.now.law.dictionary.tables self.now.tables) (kept_of skips.now self.now.law.dictionary.tables self.now.n changes.now)
+            ≡ Ok (overlaid (assembled self.now.law.dictionary.tables self.now.tables) writes)) }
+        ensures sound { IfOk result (λ writes. AreSound (overlaid (assembled self.now.law.dictionary.tables self.now.tables) writes)) }
+        ensures missed { IfErr result (TellsMiss (effects (assembled self.now.law.dictionary.tables self.now.tables) (kept_of skips.now self.now.law.dictionary.tables self.now.n changes.now))) }
+    {
+        let mut over = Overlay::new(self.alloc);
+        let base = Based {
+            dict: self.law.dict(),
+            tables: &self.tables,
+        };
+        effects_of(&base, skips, self.n, changes, &mut over)?;
+        match over.writes() {
+            Ok(writes) => Ok(writes),
+            Err(NoMemory) => Err(EffectsFault::Memory),
+        }
+    }
+
+    // The commit after n has these changes. It answers why the fold ends with it, if it does.
+    fn apply(
+        &mut self,
+        skips: &Skips,
+        scn: Scn,
+        changes: Survivors,
+    ) -> Result<Option<Verdict>, NoMemory>
+        requires whole { self.old.whole ≡ true }
+        requires accepted { AreAccepted self.old.law.dictionary.tables changes }
+        requires sound { AreSound (assembled self.old.law.dictionary.tables self.old.tables) }
+        ensures taken { IfOk result (λ end. progress_of end self.new ≡ committed skips.now scn changes (ahead_of self.old)) }
+        ensures sound { IfOk result (λ end. AreSound (assembled self.new.law.dictionary.tables self.new.tables)) }
+        ensures law { IfOk result (λ end. self.new.law ≡ self.old.law) }
+        ensures live { IfOk result (λ end. self.new.live ≡ self.old.live) }
+        ensures rec { IfOk result (λ end. self.new.rec ≡ self.old.rec) }
+        ensures whole { IfOk result (λ end. self.new.whole ≡ self.old.whole) }
+    {
+        let Some(made) = self.made.checked_add(1) else {
+            return Err(NoMemory);
+        };
+        if self.made < self.n {
+            self.made = made;
+            return Ok(None);
+        }
+        let Some(n) = self.n.checked_add(1) else {
+            return Err(NoMemory);
+        };
+        let changes = changes.into_items();
+        let writes = match self.writes_of(skips, changes.as_slice()) {
+            Ok(writes) => writes,
+            Err(EffectsFault::Memory) => return Err(NoMemory),
+            Err(EffectsFault::Missed { pos, table, miss }) => {
+                return Ok(Some(Verdict::Mismatch {
+                    scn,
+                    pos,
+                    table,
+                    miss,
+                }));
+            }
+        };
+        if !put_in(self.law.dict(), &mut self.tables, writes)? {
+            return Ok(Some(Verdict::RowLimit { scn }));
+        }
+        self.made = made;
+        self.n = n;
+        self.scn = scn;
+        Ok(None)
+    }
+
+    // The commit of these changes, if a vector commits any.
+    fn apply_commit(
+        &mut self,
+        skips: &Skips,
+        scn: Scn,
+        commit: Option<Survivors>,
+    ) -> Result<Option<Verdict>, NoMemory>
+        requires may { IfSome commit (λ ps. MayCommit self.old ps) }
+        requires sound { AreSound (tables_of self.old) }
+        requires none { self.old.whole ≡ false → self.old.tables ≡ [] }
+        ensures taken { IfOk result (λ end. progress_of end self.new ≡ with_commit skips.now scn commit (ahead_of self.old)) }
+        ensures sound { IfOk result (λ end. AreSound (tables_of self.new)) }
+        ensures none { IfOk result (λ end. self.new.whole ≡ false → self.new.tables ≡ []) }
+        ensures law { IfOk result (λ end. self.new.law ≡ self.old.law) }
+        ensures live { IfOk result (λ end. self.new.live ≡ self.old.live) }
+        ensures rec { IfOk result (λ end. self.new.rec ≡ self.old.rec) }
+        ensures whole { IfOk result (λ end. self.new.whole ≡ self.old.whole) }
+    {
+        match commit {
+            None => Ok(None),
+            Some(changes) => self.apply(skips, scn, changes),
+        }
+    }
+
+    /// The step over the next record. It answers why the fold ends with it, if it does.
+    pub fn step(
+        &mut self,
+        head: &Header,
+        rec: RedoRec,
+        skips: &Skips,
+    ) -> Result<Option<Verdict>, NoMemory>
+        requires running { IsRunning self.old }
+        requires room { self.old.law.rec + 1 < 2 ^ 64 }
+        ensures running { IfOk result (λ end. end ≡ None → IsRunning self.new) }
+        ensures taken { IfOk result (λ end. progress_of end self.new ≡ after_record skips.now (head.now, rec) (Going (ahead_of self.old))) }
+    {
+        match self.law.admit(head, &rec) {
+            Ok(()) => {}
+            Err(AdmitFault::Memory) => return Err(NoMemory),
+            Err(AdmitFault::Law(fault)) => {
+                return Ok(Some(Verdict::Stopped(Stop::Malformed {
+                    rec: self.rec + 1,
+                    cause: Cause::Law(fault),
+                })));
+            }
+        }
+        self.rec += 1;
+        self.whole = self.law.dict().finished();
+        let scn = rec.scn;
+        let mut vec: u16 = 1;
+        for vector in rec.vectors.into_items() {
+            let at = Pos {
+                rec: self.rec,
+                vec: vec as u8,
+            };
+            let commit = self.live.take(at, vector)?;
+            if let Some(verdict) = self.apply_commit(skips, scn, commit)? {
+                return Ok(Some(verdict));
+            }
+            vec += 1;
+        }
+        Ok(None)
+    }
+}
