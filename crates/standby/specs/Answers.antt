@@ -1,21 +1,23 @@
 -- The table of answers: each status of a command, when it comes, and what is then written.
 --
--- The statuses are listed in `Comes`. Done comes where the words are a fold of a log in first form; Usage exactly where
--- they are no command; NotBuilt exactly where they are a later command, or else a fold of a log that is absent or not in
--- first form. These exclude each other. So a fold of a log in first form ends as Done, as a fault of a device whose
--- count of faults rose, or as Memory, and nothing else; and one of another log as NotBuilt in place of Done.
+-- The statuses are listed in `Comes`. The five ends of a fold come exactly as the definitions' fold of the archive's log
+-- ends, and only where the words ask for a fold; Usage exactly where they are no command; NotBuilt exactly where they are a
+-- later command. So a fold ends as its verdict says, as a fault of a device whose count of faults rose, or as Memory, and
+-- nothing else.
 -- What is said of logs holds where the archive tells them, and what is said of lines where the sink tells what is written.
-use Rattle.std.specs.Prelude.{ℕ, ◌≡◌, List, [], ◌∷◌, ◌++◌, take, ◌⊎◌, ⊤, Option, Some, None, codes}
+use Rattle.std.specs.Prelude.{ℕ, ◌≡◌, List, [], ◌∷◌, ◌++◌, take, ⊤, Option, Some, None, codes}
 use Rattle.std.specs.Io.KnownBytes.{Appends}
 use Rattle.rl_base.specs.declared.status.Status.{Status}
 use Rattle.rl_base.specs.declared.status.Status.TheVariants as statuses
+use Rattle.rl_value.specs.declared.verdict.Stop.{Stop}
+use Rattle.rl_value.specs.declared.verdict.Stop.TheVariants.{Drained, Gap, Malformed}
+use Rattle.rl_value.specs.declared.verdict.Verdict.{Verdict}
+use Rattle.rl_value.specs.declared.verdict.Verdict.TheVariants.{Stopped, Mismatch, RowLimit}
 use Rattle.rl_ports.specs.Faults.{Told}
 use Rattle.standby.specs.declared.command.Command.{Command}
 use Rattle.standby.specs.declared.command.Command.TheVariants.{Fold, Later}
-use Rattle.standby.specs.declared.number_log.NumberLog.{NumberLog}
 use Rattle.redo_spec.specs.Redo.{fold_of_log}
 use Rattle.redo_spec.specs.Lines.{written, fold_lines}
-use Rattle.standby.specs.FirstForm.{Holds}
 use Rattle.standby.specs.Writing.{AppendsPrefix}
 
 -- the statuses that come so far
@@ -25,43 +27,50 @@ Comes statuses.Usage = ⊤
 Comes statuses.NotBuilt = ⊤
 Comes statuses.ArchiveFault = ⊤
 Comes statuses.SinkFault = ⊤
+Comes statuses.Gap = ⊤
+Comes statuses.Malformed = ⊤
+Comes statuses.Mismatch = ⊤
+Comes statuses.RowLimit = ⊤
 Comes statuses.Memory = ⊤
 Comes other = ⊥
 
--- ---- Done
+-- ---- the ends of a fold
+
+-- the status of a redo that ends so
+abbrev pub stop_status : Stop → Status
+stop_status Drained = statuses.Done
+stop_status (Gap low high) = statuses.Gap
+stop_status (Malformed rec cause) = statuses.Malformed
+
+-- the status of a run that ends so
+abbrev pub end_status : Verdict → Status
+end_status (Stopped stop) = stop_status stop
+end_status (Mismatch scn pos table miss) = statuses.Mismatch
+end_status (RowLimit scn) = statuses.RowLimit
+
+-- a run ended
+abbrev pub IsEnd : Status → Type 0
+IsEnd statuses.Done = ⊤
+IsEnd statuses.Gap = ⊤
+IsEnd statuses.Malformed = ⊤
+IsEnd statuses.Mismatch = ⊤
+IsEnd statuses.RowLimit = ⊤
+IsEnd other = ⊥
 
 -- what the fold of the log with these bytes prints, by the definitions
 abbrev pub text_of_log : ℕ → Option (List ℕ) → List ℕ
 text_of_log seq bytes = written (fold_lines (fold_of_log seq bytes))
 
--- a log in first form is held under this sequence, and what its bytes fold to was written
-pub record Prints (logs : ℕ → Option (List ℕ)) (seq : ℕ) (old new : Option (List ℕ)) : Type 0 where
-  pub log : NumberLog
-  pub held : Holds logs seq log
+-- the status is that of the fold of the log that is held under this sequence, or of its absence, and its lines were written
+pub record Prints (logs : ℕ → Option (List ℕ)) (seq : ℕ) (status : Status) (old new : Option (List ℕ)) : Type 0 where
+  pub ended : status ≡ end_status (fold_of_log seq (logs seq)).verdict
   pub lines : Appends old new (text_of_log seq (logs seq))
 
--- the command is a fold, and its lines were written
-pub record FoldsWhole (command : Command) (logs : Option (ℕ → Option (List ℕ))) (old new : Option (List ℕ)) : Type 0 where
+-- the command is a fold, and it is as `Prints` says
+pub record FoldsWhole (command : Command) (logs : Option (ℕ → Option (List ℕ))) (status : Status) (old new : Option (List ℕ)) : Type 0 where
   pub seq : ℕ
   pub asked : command ≡ Fold seq
-  pub prints : Told logs (λ logs. Prints logs seq old new)
-
--- ---- NotBuilt
-
--- no log in first form is held under this sequence
-abbrev pub HoldsNone : (ℕ → Option (List ℕ)) → ℕ → Type 0
-HoldsNone logs seq = (l : NumberLog) → ¬ (Holds logs seq l)
-
--- the command is a fold of a log that is absent or not in first form
-pub record IsUnfoldable (command : Command) (logs : Option (ℕ → Option (List ℕ))) : Type 0 where
-  pub seq : ℕ
-  pub asked : command ≡ Fold seq
-  pub none : Told logs (λ logs. HoldsNone logs seq)
-
--- only where something is not built, and always for a later command
-pub record IsNotBuilt (command : Command) (logs : Option (ℕ → Option (List ℕ))) (status : Status) : Type 0 where
-  pub only : status ≡ statuses.NotBuilt → (command ≡ Later) ⊎ IsUnfoldable command logs
-  pub later : command ≡ Later → status ≡ statuses.NotBuilt
+  pub prints : Told logs (λ logs. Prints logs seq status old new)
 
 -- ---- faults of devices
 
@@ -71,10 +80,8 @@ pub record IsArchiveFault (command : Command) (rose : Type 0) : Type 0 where
   pub asked : command ≡ Fold seq
   pub cause : rose
 
--- a log in first form is held under this sequence, and a prefix of what its bytes fold to was written
+-- a prefix of what the log folds to was written
 pub record PrintsPrefix (logs : ℕ → Option (List ℕ)) (seq : ℕ) (old new : Option (List ℕ)) : Type 0 where
-  pub log : NumberLog
-  pub held : Holds logs seq log
   pub count : ℕ
   pub lines : Appends old new (take count (text_of_log seq (logs seq)))
 

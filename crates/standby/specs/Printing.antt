@@ -1,55 +1,43 @@
--- The printed fold of a log in first form, line by line: what the program builds.
--- That it is the text of the definitions, `fold_text`, is shown in proofs/FoldText.antt.
-use Rattle.std.specs.Prelude.{ℕ, ℤ, List, [], ◌∷◌, ◌++◌, if◌then◌else◌, int_lt, length, codes}
+-- The printed text of a fold as the program puts it together: words behind spaces, and lines with their LF.
+-- What is printed is that of the definitions (`Lines` of redo_spec), joined otherwise.
+use Rattle.std.specs.Prelude.{ℕ, List, [], ◌∷◌, ◌++◌, length, codes}
 use Rattle.std.specs.List.{flat_map}
-use Rattle.std.specs.Fmt.{decimal, signed_decimal}
-use Rattle.redo_spec.specs.Lines.{words}
-use Rattle.standby.specs.declared.number_log.Insertion.{Insertion}
-use Rattle.standby.specs.declared.number_log.NumberLog.{NumberLog}
+use Rattle.std.specs.Fmt.{decimal}
+use Rattle.rl_value.specs.declared.value.Value.{Value}
+use Rattle.rl_value.specs.Literal.{row_text}
+use Rattle.rl_value.specs.declared.verdict.Verdict.{Verdict}
+use Rattle.redo_vec.specs.declared.table.TableRow.{TableRow}
+use Rattle.redo_spec.specs.Skips.{full_name}
+use Rattle.redo_spec.specs.Tables.{Rows, RowsById, rows_by}
+use Rattle.redo_spec.specs.Lines.{words, end_line, verdict_text}
 
--- ---- numbers in rising order
-
--- one number more, if it is not there
-abbrev pub put_number : ℤ → List ℤ → List ℤ
-put_number z [] = z ∷ []
-put_number z (y ∷ ys) = if int_lt z y then z ∷ y ∷ ys else if int_lt y z then y ∷ put_number z ys else y ∷ ys
-
--- these numbers, one after another
-abbrev pub put_all : List ℤ → List Insertion → List ℤ
-put_all zs [] = zs
-put_all zs (i ∷ is) = put_all (put_number i.number zs) is
-
--- ---- lines
+-- each word with a space before it
+abbrev pub spaced : List (List ℕ) → List ℕ
+spaced words = flat_map (λ word. 32 ∷ word) words
 
 -- a line as it is written, with its LF
 abbrev pub with_end : List ℕ → List ℕ
 with_end line = line ++ 10 ∷ []
 
--- one row, which is one number
-abbrev pub row_line : ℤ → List ℕ
-row_line z = with_end (words (codes "ROW" ∷ signed_decimal z ∷ []))
+abbrev pub applied_text : ℕ → List ℕ
+applied_text scn = with_end (words (codes "APPLIED_SCN" ∷ decimal scn ∷ []))
 
--- the SCN that is applied
-abbrev pub applied_line : ℕ → List ℕ
-applied_line scn = with_end (words (codes "APPLIED_SCN" ∷ decimal scn ∷ []))
+abbrev pub row_line : List Value → List ℕ
+row_line row = with_end (words (codes "ROW" ∷ row_text row ∷ []))
 
--- a table's name and the number of its rows
-abbrev pub table_line : List ℕ → ℕ → List ℕ
-table_line name count = with_end (words (codes "TABLE" ∷ name ∷ decimal count ∷ []))
+abbrev pub table_line : TableRow → ℕ → List ℕ
+table_line t count = with_end (words (codes "TABLE" ∷ full_name t ∷ decimal count ∷ []))
 
--- the SCN and the number of the commits of a redo that is drained
-abbrev pub last_line : ℕ → ℕ → List ℕ
-last_line scn n = with_end (words (codes "END" ∷ decimal scn ∷ decimal n ∷ codes "DRAINED" ∷ []))
+abbrev pub rows_text : Rows → List ℕ
+rows_text rows = flat_map (λ r. row_line r.1) rows
 
--- the SCN of the last commit, or this one where there is none
-abbrev pub last_scn : ℕ → List Insertion → ℕ
-last_scn scn [] = scn
-last_scn scn (i ∷ is) = last_scn i.commit_scn is
+-- a table with its rows
+abbrev pub table_text : RowsById → TableRow → List ℕ
+table_text by t = table_line t (length (rows_by by t.id)) ++ rows_text (rows_by by t.id)
 
--- the table's full name
-abbrev pub table_text : NumberLog → List ℕ
-table_text l = l.schema ++ 46 ∷ l.name
+-- the words of the END line, joined word by word
+abbrev pub end_words : List TableRow → ℕ → ℕ → Verdict → List ℕ
+end_words tables scn n verdict = codes "END" ++ spaced (decimal scn ∷ decimal n ∷ verdict_text tables verdict)
 
--- all lines, where these are the numbers, the SCN and the number of commits
-abbrev pub whole_text : NumberLog → List ℤ → ℕ → ℕ → List ℕ
-whole_text l zs scn n = applied_line scn ++ (table_line (table_text l) (length zs) ++ (flat_map row_line zs ++ last_line scn n))
+abbrev pub end_text : List TableRow → ℕ → ℕ → Verdict → List ℕ
+end_text tables scn n verdict = with_end (end_line tables scn n verdict)

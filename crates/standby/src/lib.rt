@@ -4,22 +4,19 @@
 #![tactic(auto)]
 
 mod command;
+mod cutting;
 mod ended;
+mod fault_words;
 mod fetch;
-mod fields;
 mod fold;
 mod folding;
-mod form;
-mod number_log;
 mod output;
 mod printing;
-mod reading;
 mod say;
-mod sorting;
-mod spelling;
 mod still;
 #[cfg(test)]
 mod tests;
+mod verdict_words;
 mod words;
 
 pub use ended::Ended;

@@ -1,50 +1,42 @@
-//! Appends bytes and numbers to a growing list of bytes.
-ghost use Rattle.std.specs.Prelude.{◌≡◌, ◌++◌, OnOk};
-ghost use Rattle.std.specs.Fmt.{decimal, signed_decimal};
-ghost use Rattle.redo_vec.specs.Spelling.{be16, be32, be64};
+//! Appends bytes, words and numbers to a growing text.
+ghost use Rattle.std.specs.Prelude.{◌≡◌, ◌++◌, ◌∷◌, OnOk};
+ghost use Rattle.std.specs.Fmt.{decimal};
 
-use std::alloc::{AllocError, Global};
+use rl_value::NoMemory;
+use std::alloc::Global;
 
 /// Puts bytes at the end.
-pub fn push_bytes(out: &mut Vec<u8>, bytes: &[u8]) -> Result<(), AllocError>
+pub fn push_bytes(out: &mut Vec<u8>, bytes: &[u8]) -> Result<(), NoMemory>
     ensures { OnOk result (out.new.items ≡ out.old.items ++ bytes.now) }
 {
-    out.extend_from_slice(bytes)
-}
-
-/// Big-endian, as are the next two.
-pub fn push_u16(out: &mut Vec<u8>, number: u16) -> Result<(), AllocError>
-    ensures { OnOk result (out.new.items ≡ out.old.items ++ be16 number) }
-{
-    out.extend_from_slice(&number.to_be_bytes())
-}
-
-/// Puts a number at the end, as 4 bytes, big-endian.
-pub fn push_u32(out: &mut Vec<u8>, number: u32) -> Result<(), AllocError>
-    ensures { OnOk result (out.new.items ≡ out.old.items ++ be32 number) }
-{
-    out.extend_from_slice(&number.to_be_bytes())
-}
-
-/// Puts a number at the end, as 8 bytes, big-endian.
-pub fn push_u64(out: &mut Vec<u8>, number: u64) -> Result<(), AllocError>
-    ensures { OnOk result (out.new.items ≡ out.old.items ++ be64 number) }
-{
-    out.extend_from_slice(&number.to_be_bytes())
+    match out.extend_from_slice(bytes) {
+        Ok(()) => Ok(()),
+        Err(_) => Err(NoMemory),
+    }
 }
 
 /// Puts a number at the end, in decimal.
-pub fn push_decimal(alloc: Global, out: &mut Vec<u8>, number: u64) -> Result<(), AllocError>
+pub fn push_decimal(alloc: Global, out: &mut Vec<u8>, number: u64) -> Result<(), NoMemory>
     ensures { OnOk result (out.new.items ≡ out.old.items ++ decimal number) }
 {
-    let text = format!(in alloc; "{number}")?;
+    let Ok(text) = format!(in alloc; "{number}") else {
+        return Err(NoMemory);
+    };
     push_bytes(out, text.as_bytes())
 }
 
-/// Puts a number at the end, in decimal, with its sign where it is negative.
-pub fn push_signed(alloc: Global, out: &mut Vec<u8>, number: i64) -> Result<(), AllocError>
-    ensures { OnOk result (out.new.items ≡ out.old.items ++ signed_decimal number) }
+/// Puts a space and a word at the end.
+pub fn push_word(out: &mut Vec<u8>, word: &[u8]) -> Result<(), NoMemory>
+    ensures { OnOk result (out.new.items ≡ out.old.items ++ 32 ∷ word.now) }
 {
-    let text = format!(in alloc; "{number}")?;
-    push_bytes(out, text.as_bytes())
+    push_bytes(out, b" ")?;
+    push_bytes(out, word)
+}
+
+/// Puts a space and a number at the end, in decimal.
+pub fn push_number(alloc: Global, out: &mut Vec<u8>, number: u64) -> Result<(), NoMemory>
+    ensures { OnOk result (out.new.items ≡ out.old.items ++ 32 ∷ decimal number) }
+{
+    push_bytes(out, b" ")?;
+    push_decimal(alloc, out, number)
 }

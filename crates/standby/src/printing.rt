@@ -1,108 +1,118 @@
-//! Prints the fold of a log in first form.
-//!
-//! The lines: APPLIED_SCN, the table with its rows in order of key, and END. Each ends with LF.
+//! Prints a fold: APPLIED_SCN, each table in order of id with its rows in order of key, and the END line.
 //! Layouts: docs/FORMATS.md, "Printed lines".
-ghost use Rattle.std.specs.Prelude.{◌≡◌, ◌-◌, ◌++◌, [], OnOk, IfOk, length};
+ghost use Rattle.std.specs.Prelude.{◌≡◌, ◌++◌, OnOk, IfOk};
 ghost use Rattle.std.specs.List.{flat_map};
-ghost use Rattle.standby.specs.Printing.{put_all, row_line, applied_line, table_line, last_line, last_scn, table_text, whole_text};
+ghost use Rattle.redo_spec.specs.Lines.{written, fold_lines};
+ghost use Rattle.redo_spec.specs.Tables.{rows_by};
+ghost use Rattle.primary.specs.Starts.{shown};
+ghost use Rattle.standby.specs.Printing.{applied_text, row_line, table_line, rows_text, table_text, end_words, end_text};
 
-use crate::number_log::{Insertion, NumberLog};
-use crate::output::{push_bytes, push_decimal, push_signed};
-use crate::sorting::sorted;
-use std::alloc::{AllocError, Global};
+use crate::output::{push_bytes, push_decimal, push_number, push_word};
+use crate::verdict_words::{push_full_name, push_verdict};
+use primary::{Folded, PlainTables};
+use redo_vec::TableRow;
+use rl_base::Line;
+use rl_text::put_row;
+use rl_value::{NoMemory, Row};
+use std::alloc::Global;
 
-fn push_applied(alloc: Global, out: &mut Vec<u8>, scn: u64) -> Result<(), AllocError>
-    ensures { OnOk result (out.new.items ≡ out.old.items ++ applied_line scn) }
+fn push_applied(alloc: Global, out: &mut Vec<u8>, scn: u64) -> Result<(), NoMemory>
+    ensures { OnOk result (out.new.items ≡ out.old.items ++ applied_text scn) }
 {
     push_bytes(out, b"APPLIED_SCN ")?;
     push_decimal(alloc, out, scn)?;
     push_bytes(out, b"\n")
 }
 
-fn push_row(alloc: Global, out: &mut Vec<u8>, number: i64) -> Result<(), AllocError>
-    ensures { OnOk result (out.new.items ≡ out.old.items ++ row_line number) }
+fn push_row(alloc: Global, out: &mut Vec<u8>, row: &Row) -> Result<(), NoMemory>
+    ensures { OnOk result (out.new.items ≡ out.old.items ++ row_line row.now) }
 {
-    push_bytes(out, b"ROW ")?;
-    push_signed(alloc, out, number)?;
+    let mut text = Line::new(alloc);
+    put_row(alloc, &mut text, row)?;
+    push_bytes(out, b"ROW")?;
+    push_word(out, text.items())?;
     push_bytes(out, b"\n")
 }
 
-fn push_rows(alloc: Global, out: &mut Vec<u8>, numbers: &[i64]) -> Result<(), AllocError>
-    ensures { OnOk result (out.new.items ≡ out.old.items ++ flat_map row_line numbers.now) }
+fn push_table_line(
+    alloc: Global,
+    out: &mut Vec<u8>,
+    table: &TableRow,
+    count: u64,
+) -> Result<(), NoMemory>
+    ensures { OnOk result (out.new.items ≡ out.old.items ++ table_line table.now count) }
 {
-    for number in numbers {
-        push_row(alloc, out, *number)?;
+    push_bytes(out, b"TABLE ")?;
+    push_full_name(out, table)?;
+    push_number(alloc, out, count)?;
+    push_bytes(out, b"\n")
+}
+
+#[tactic(auto, using(crate::proofs::Lines::lines_of_rows))]
+fn push_rows(
+    alloc: Global,
+    out: &mut Vec<u8>,
+    tables: &PlainTables,
+    table: u32,
+) -> Result<(), NoMemory>
+    ensures { OnOk result (out.new.items ≡ out.old.items ++ rows_text (rows_by tables.now table)) }
+{
+    for row in tables.rows(table) {
+        push_row(alloc, out, row)?;
     }
     Ok(())
 }
 
-fn push_table(alloc: Global, out: &mut Vec<u8>, name: &[u8], rows: u64) -> Result<(), AllocError>
-    ensures { OnOk result (out.new.items ≡ out.old.items ++ table_line name.now rows) }
+fn push_table(
+    alloc: Global,
+    out: &mut Vec<u8>,
+    tables: &PlainTables,
+    table: &TableRow,
+) -> Result<(), NoMemory>
+    ensures { OnOk result (out.new.items ≡ out.old.items ++ table_text tables.now table.now) }
 {
-    push_bytes(out, b"TABLE ")?;
-    push_bytes(out, name)?;
-    push_bytes(out, b" ")?;
-    push_decimal(alloc, out, rows)?;
+    push_table_line(alloc, out, table, tables.count(table.id) as u64)?;
+    push_rows(alloc, out, tables, table.id)
+}
+
+fn push_tables(
+    alloc: Global,
+    out: &mut Vec<u8>,
+    tables: &PlainTables,
+    definitions: &[TableRow],
+) -> Result<(), NoMemory>
+    ensures { OnOk result (out.new.items ≡ out.old.items ++ flat_map (table_text tables.now) definitions.now) }
+{
+    for table in definitions {
+        push_table(alloc, out, tables, table)?;
+    }
+    Ok(())
+}
+
+// The words of the END line.
+fn push_end_words(alloc: Global, out: &mut Vec<u8>, folded: &Folded) -> Result<(), NoMemory>
+    ensures { OnOk result (out.new.items ≡ out.old.items ++ end_words folded.now.dict.tables folded.now.scn folded.now.n folded.now.end) }
+{
+    push_bytes(out, b"END")?;
+    push_number(alloc, out, folded.scn)?;
+    push_number(alloc, out, folded.n)?;
+    push_verdict(alloc, out, &folded.dict, &folded.end)
+}
+
+fn push_end(alloc: Global, out: &mut Vec<u8>, folded: &Folded) -> Result<(), NoMemory>
+    ensures { OnOk result (out.new.items ≡ out.old.items ++ end_text folded.now.dict.tables folded.now.scn folded.now.n folded.now.end) }
+{
+    push_end_words(alloc, out, folded)?;
     push_bytes(out, b"\n")
 }
 
-fn push_last(alloc: Global, out: &mut Vec<u8>, scn: u64, commits: u64) -> Result<(), AllocError>
-    ensures { OnOk result (out.new.items ≡ out.old.items ++ last_line scn commits) }
-{
-    push_bytes(out, b"END ")?;
-    push_decimal(alloc, out, scn)?;
-    push_bytes(out, b" ")?;
-    push_decimal(alloc, out, commits)?;
-    push_bytes(out, b" DRAINED\n")
-}
-
-// The SCN of the last commit, or this one where there is none.
-fn applied_scn(base: u64, insertions: &[Insertion]) -> u64
-    ensures { result ≡ last_scn base insertions.now }
-{
-    let mut scn = base;
-    for insertion in insertions {
-        scn = insertion.commit_scn;
-    }
-    scn
-}
-
-fn table_of(alloc: Global, log: &NumberLog) -> Result<Vec<u8>, AllocError>
-    ensures { IfOk result (λ v. v.items ≡ table_text log.now) }
-{
-    let mut name = Vec::from_slice(alloc, log.schema.bytes())?;
-    name.push(b'.')?;
-    name.extend_from_slice(log.name.bytes())?;
-    Ok(name)
-}
-
-fn lines_of(
-    alloc: Global,
-    name: &[u8],
-    numbers: &[i64],
-    scn: u64,
-    commits: u64,
-) -> Result<Vec<u8>, AllocError>
-    ensures { IfOk result (λ v. v.items ≡ applied_line scn ++ (table_line name.now (length numbers.now)
-        ++ (flat_map row_line numbers.now ++ last_line scn commits))) }
+/// The lines of the fold.
+pub fn text_of(alloc: Global, folded: &Folded) -> Result<Vec<u8>, NoMemory>
+    ensures { IfOk result (λ text. text.items ≡ written (fold_lines (shown folded.now))) }
 {
     let mut out = Vec::new(alloc);
-    push_applied(alloc, &mut out, scn)?;
-    push_table(alloc, &mut out, name, numbers.len() as u64)?;
-    push_rows(alloc, &mut out, numbers)?;
-    push_last(alloc, &mut out, scn, commits)?;
+    push_applied(alloc, &mut out, folded.scn)?;
+    push_tables(alloc, &mut out, &folded.tables, folded.dict.tables())?;
+    push_end(alloc, &mut out, folded)?;
     Ok(out)
-}
-
-/// The lines of the fold of the log.
-pub fn text_of(alloc: Global, log: &NumberLog) -> Result<Vec<u8>, AllocError>
-    ensures { IfOk result (λ v. v.items ≡ whole_text log.now (put_all [] log.now.insertions)
-        (last_scn (log.now.head.first - 1) log.now.insertions) (length log.now.insertions)) }
-{
-    let insertions = log.insertions.items();
-    let numbers = sorted(alloc, insertions)?;
-    let name = table_of(alloc, log)?;
-    // A redo follows the SCN before the first of its first log.
-    let scn = applied_scn(log.head.first.saturating_sub(1), insertions);
-    lines_of(alloc, &name, &numbers, scn, insertions.len() as u64)
 }

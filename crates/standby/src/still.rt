@@ -5,8 +5,8 @@
 ghost use Rattle.std.specs.Prelude.{◌≡◌, ◌≤◌, ◌↔◌};
 ghost use Rattle.rl_ports.specs.Faults.{Rose};
 ghost use Rattle.standby.specs.Command.{command_of};
-ghost use Rattle.standby.specs.declared.command.Command.TheVariants.{Wrong};
-ghost use Rattle.standby.specs.Answers.{Comes, FoldsWhole, IsNotBuilt, IsArchiveFault, IsSinkFault, SaysFault, fault_word};
+ghost use Rattle.standby.specs.declared.command.Command.TheVariants.{Later, Wrong};
+ghost use Rattle.standby.specs.Answers.{Comes, IsEnd, FoldsWhole, IsArchiveFault, IsSinkFault, SaysFault, fault_word};
 ghost use Rattle.standby.specs.Devices.{ComeBack};
 
 use crate::command::Command;
@@ -40,10 +40,10 @@ pub fn sqlapply_still<I: Source, O: Sink, A: Archive, S: Spill, K: Keeper>(
 
     // Each row of the table of answers. Memory has no cause.
     ensures comes { Comes result.status }
-    ensures done { result.status ≡ Status.Done →
-        FoldsWhole (command_of words.now) (A.logs archive) (O.written out.old) (O.written out.new) }
+    ensures ends { IsEnd result.status →
+        FoldsWhole (command_of words.now) (A.logs archive) result.status (O.written out.old) (O.written out.new) }
     ensures usage { (result.status ≡ Status.Usage) ↔ (command_of words.now ≡ Wrong) }
-    ensures not_built { IsNotBuilt (command_of words.now) (A.logs archive) result.status }
+    ensures not_built { (result.status ≡ Status.NotBuilt) ↔ (command_of words.now ≡ Later) }
     ensures archive_fault { result.status ≡ Status.ArchiveFault →
         IsArchiveFault (command_of words.now) (Rose (A.faults archive) (A.faults result.archive)) }
     ensures sink_fault { result.status ≡ Status.SinkFault →

@@ -1,4 +1,4 @@
-//! Whole commands over small devices: the first log, logs in no such form, all kinds of words, devices that fail.
+//! Whole commands over small devices: each end of a fold, all kinds of words, devices that fail.
 //!
 //! Expected lines and statuses come from the formats and the table of answers (docs/FORMATS.md, README.md).
 ghost use Rattle.std.specs.Prelude.{None, Some, false, refl};
@@ -20,6 +20,44 @@ const LOG: [u8; 146] = [
     0, 3,
 ];
 
+/// HR.EMP (ID, NAME, EMAIL): a transaction inserts a row, changes its name, takes the change back, and commits.
+const UNDONE: [u8; 255] = [
+    0x53, 0x52, 0x4c, 0x31, 0, 1, 0, 1, 0, 0, 0, 9, 0, 0, 0, 1, 0, 0, 0, 0, 0, 0, 0, 0x64, 0, 0, 0,
+    0, 0, 0, 0, 0xc8, 0, 0, 0, 5, 0, 0, 0, 0, 0, 0, 0, 0x3b, 0, 0, 0, 0, 0, 0, 0, 0x64, 0, 2, 8, 0,
+    0, 0, 1, 2, 0x48, 0x52, 3, 0x45, 0x4d, 0x50, 3, 2, 0x49, 0x44, 1, 0, 0, 0, 4, 0x4e, 0x41, 0x4d,
+    0x45, 2, 0, 0x1e, 1, 5, 0x45, 0x4d, 0x41, 0x49, 0x4c, 2, 0, 0x1e, 1, 1, 0, 1, 1, 2, 9, 0, 0, 0,
+    0x39, 0, 0, 0, 0, 0, 0, 0, 0x65, 0, 2, 1, 0, 1, 0, 1, 0, 0, 0, 1, 2, 0, 1, 0, 1, 0, 0, 0, 1, 0,
+    0, 0, 1, 0, 3, 0, 1, 0, 0, 0, 0, 0, 0, 0, 1, 1, 2, 0, 3, 0x41, 0x6e, 0x6e, 2, 0, 0, 0, 0, 0x35,
+    0, 0, 0, 0, 0, 0, 0, 0x66, 0, 1, 3, 0, 1, 0, 1, 0, 0, 0, 1, 0, 0, 0, 1, 2, 0, 1, 0, 0, 0, 0, 0,
+    0, 0, 1, 1, 2, 0, 3, 0x41, 0x6e, 0x6e, 1, 1, 2, 0, 3, 0x42, 0x6f, 0x62, 0, 0, 0, 0x17, 0, 0, 0,
+    0, 0, 0, 0, 0x67, 0, 1, 5, 0, 1, 0, 1, 0, 0, 0, 1, 0, 0, 0, 0x17, 0, 0, 0, 0, 0, 0, 0, 0x68, 0,
+    1, 6, 0, 1, 0, 1, 0, 0, 0, 1,
+];
+
+/// HR.EMP: two transactions insert a row of the same key, and neither has ended.
+const LOCKED: [u8; 203] = [
+    0x53, 0x52, 0x4c, 0x31, 0, 1, 0, 1, 0, 0, 0, 9, 0, 0, 0, 1, 0, 0, 0, 0, 0, 0, 0, 0x64, 0, 0, 0,
+    0, 0, 0, 0, 0xc8, 0, 0, 0, 3, 0, 0, 0, 0, 0, 0, 0, 0x3b, 0, 0, 0, 0, 0, 0, 0, 0x64, 0, 2, 8, 0,
+    0, 0, 1, 2, 0x48, 0x52, 3, 0x45, 0x4d, 0x50, 3, 2, 0x49, 0x44, 1, 0, 0, 0, 4, 0x4e, 0x41, 0x4d,
+    0x45, 2, 0, 0x1e, 1, 5, 0x45, 0x4d, 0x41, 0x49, 0x4c, 2, 0, 0x1e, 1, 1, 0, 1, 1, 2, 9, 0, 0, 0,
+    0x34, 0, 0, 0, 0, 0, 0, 0, 0x65, 0, 2, 1, 0, 1, 0, 1, 0, 0, 0, 1, 2, 0, 1, 0, 1, 0, 0, 0, 1, 0,
+    0, 0, 1, 0, 3, 0, 1, 0, 0, 0, 0, 0, 0, 0, 1, 1, 0, 2, 0, 0, 0, 0, 0x34, 0, 0, 0, 0, 0, 0, 0,
+    0x66, 0, 2, 1, 0, 2, 0, 1, 0, 0, 0, 1, 2, 0, 2, 0, 1, 0, 0, 0, 1, 0, 0, 0, 1, 0, 3, 0, 1, 0, 0,
+    0, 0, 0, 0, 0, 1, 1, 0, 2, 0,
+];
+
+/// HR.EMP: a transaction updates a row that is not there, and commits.
+const ABSENT: [u8; 191] = [
+    0x53, 0x52, 0x4c, 0x31, 0, 1, 0, 1, 0, 0, 0, 9, 0, 0, 0, 1, 0, 0, 0, 0, 0, 0, 0, 0x64, 0, 0, 0,
+    0, 0, 0, 0, 0xc8, 0, 0, 0, 3, 0, 0, 0, 0, 0, 0, 0, 0x3b, 0, 0, 0, 0, 0, 0, 0, 0x64, 0, 2, 8, 0,
+    0, 0, 1, 2, 0x48, 0x52, 3, 0x45, 0x4d, 0x50, 3, 2, 0x49, 0x44, 1, 0, 0, 0, 4, 0x4e, 0x41, 0x4d,
+    0x45, 2, 0, 0x1e, 1, 5, 0x45, 0x4d, 0x41, 0x49, 0x4c, 2, 0, 0x1e, 1, 1, 0, 1, 1, 2, 9, 0, 0, 0,
+    0x45, 0, 0, 0, 0, 0, 0, 0, 0x65, 0, 2, 1, 0, 1, 0, 1, 0, 0, 0, 1, 3, 0, 1, 0, 1, 0, 0, 0, 1, 0,
+    0, 0, 1, 3, 0, 1, 0, 0, 0, 0, 0, 0, 0, 1, 1, 2, 0, 6, 0x4f, 0x27, 0x4e, 0x65, 0x69, 0x6c, 2, 0,
+    2, 1, 0, 2, 2, 0, 3, 0x6f, 0x40, 0x78, 0, 0, 0, 0x17, 0, 0, 0, 0, 0, 0, 0, 0x66, 0, 1, 6, 0, 1,
+    0, 1, 0, 0, 0, 1,
+];
+
 /// Where the kind of the last vector stands.
 const LAST_KIND: usize = 137;
 
@@ -35,6 +73,8 @@ enum Held {
     CutShort,
     /// The first log, of which a length of 4,096 is told.
     SaidLonger,
+    /// A log of the table HR.EMP.
+    Other(&'static [u8]),
     /// Each call fails.
     Failing,
 }
@@ -53,10 +93,14 @@ impl Shelf {
         if held == Held::RolledBack {
             log[LAST_KIND] = 7;
         }
-        let size = if held == Held::CutShort { 145 } else { 146 };
+        let bytes = match held {
+            Held::CutShort => &log[..145],
+            Held::Other(bytes) => bytes,
+            _ => &log[..],
+        };
         Ok(Shelf {
             held,
-            bytes: Vec::from_slice(alloc, &log[..size])?,
+            bytes: Vec::from_slice(alloc, bytes)?,
             faults: 0,
         })
     }
@@ -229,16 +273,54 @@ fn check(rt: &impl Abort, alloc: Global, case: &Case) -> Result<(), Fail> {
 }
 
 #[test]
-fn a_fold_prints_a_log_in_first_form_and_no_other(rt: HostRuntime) -> Result<(), Fail> {
+fn each_end_of_a_fold_has_its_status_and_its_lines(rt: HostRuntime) -> Result<(), Fail> {
     let cases = [
         with_room(&["fold", "1"], Held::First, 0, LINES),
-        with_room(&["fold", "1"], Held::RolledBack, 17, "FAULT NOTBUILT\n"),
-        with_room(&["fold", "1"], Held::CutShort, 17, "FAULT NOTBUILT\n"),
-        with_room(&["fold", "2"], Held::First, 17, "FAULT NOTBUILT\n"),
+        with_room(
+            &["fold", "1"],
+            Held::RolledBack,
+            0,
+            "APPLIED_SCN 99\nTABLE T.A 0\nEND 99 0 DRAINED\n",
+        ),
+        with_room(
+            &["fold", "1"],
+            Held::CutShort,
+            9,
+            "APPLIED_SCN 99\nTABLE T.A 0\nEND 99 0 MALFORMED 3 TRUNCATED\n",
+        ),
+        with_room(
+            &["fold", "2"],
+            Held::First,
+            8,
+            "APPLIED_SCN 0\nEND 0 0 GAP 2 2\n",
+        ),
         // What comes before a read of 0 bytes is the log.
         with_room(&["fold", "1"], Held::SaidLonger, 0, LINES),
         // Its header has another sequence.
-        with_room(&["fold", "2"], Held::SaidLonger, 17, "FAULT NOTBUILT\n"),
+        with_room(
+            &["fold", "2"],
+            Held::SaidLonger,
+            9,
+            "APPLIED_SCN 0\nEND 0 0 MALFORMED 1 HEADER SEQUENCE\n",
+        ),
+        with_room(
+            &["fold", "1"],
+            Held::Other(&UNDONE),
+            0,
+            "APPLIED_SCN 104\nTABLE HR.EMP 1\nROW 1 'Ann' NULL\nEND 104 1 DRAINED\n",
+        ),
+        with_room(
+            &["fold", "1"],
+            Held::Other(&LOCKED),
+            9,
+            "APPLIED_SCN 99\nTABLE HR.EMP 0\nEND 99 0 MALFORMED 3 LOCK HR.EMP 0 (1) 1.1.1\n",
+        ),
+        with_room(
+            &["fold", "1"],
+            Held::Other(&ABSENT),
+            10,
+            "APPLIED_SCN 99\nTABLE HR.EMP 0\nEND 99 0 MISMATCH 102 2.2 HR.EMP ABSENT (1)\n",
+        ),
     ];
     for case in &cases {
         check(&rt, rt.alloc(), case)?;

@@ -1,25 +1,18 @@
+use Rattle.std.specs.Option.{option_map}
 use Rattle.rl_ports.specs.Faults.{Rose}
-use Rattle.standby.proofs.Prints.{prints, prints_prefix, told_at, text_at}
+use Rattle.standby.proofs.Prints.{prints, prints_prefix, says-nothing}
 use Rattle.standby.proofs.fold.fold.Goals as goal
 
-pub returns-in-Ok-clause-done : goal.returns-in-Ok-clause-done
-returns-in-Ok-clause-done g c =
-    let found = c.in-Ok-Some in
-    let folded = c.in-Ok-Some-folded_text in
-    let logs = g.A.Archive.logs c.args.archive.now in
-    let held = told_at logs c.args.seq (λ v. v.items) found.field-0 found.bytes found.field-0-is found.ensures.whole in
-    let text = text_at c.args.seq c.deref.result.now (λ v. v.items) folded.field-0 folded.text folded.field-0-is folded.ensures in
-    λ _. prints logs c.args.seq found.bytes.items c.deref.result.now folded.text.items c.deref-in-Ok-Some-folded_text.result.now
-    (g.O.Sink.written c.args.out.now) (g.O.Sink.written c.say.new.out)
-    held c.deref.ensures.value c.deref-in-Ok-Some-folded_text.ensures.value text c.in-Ok.ensures.whole
+pub returns-in-Ok-say-clause-ends : goal.returns-in-Ok-say-clause-ends
+returns-in-Ok-say-clause-ends g c = λ _. prints (g.A.Archive.logs c.args.archive.now) c.args.seq (option_map (λ v. v.items) c.in-Ok.log)
+    c.in-Ok-printed.field-0 c.deref.result.now (g.O.Sink.written c.args.out.now) (g.O.Sink.written c.say.new.out)
+    c.in-Ok.ensures.whole c.in-Ok-printed.ensures c.deref.ensures.value c.in-Ok-say.ensures.whole
 
-pub returns-in-Ok-Some-folded_text-clause-sink_fault : goal.returns-in-Ok-Some-folded_text-clause-sink_fault
-returns-in-Ok-Some-folded_text-clause-sink_fault g c =
-    let found = c.in-Ok-Some in
-    let folded = c.in-Ok-Some-folded_text in
-    let logs = g.A.Archive.logs c.args.archive.now in
-    let held = told_at logs c.args.seq (λ v. v.items) found.field-0 found.bytes found.field-0-is found.ensures.whole in
-    let text = text_at c.args.seq c.deref.result.now (λ v. v.items) folded.field-0 folded.text folded.field-0-is folded.ensures in
-    λ _. prints_prefix logs c.args.seq found.bytes.items c.deref.result.now folded.text.items c.deref-in-Ok-Some-folded_text.result.now
-    (g.O.Sink.written c.args.out.now) (g.O.Sink.written c.say.new.out) (Rose (g.O.Sink.faults c.args.out.now) (g.O.Sink.faults c.say.new.out))
-    held c.deref.ensures.value c.deref-in-Ok-Some-folded_text.ensures.value text c.in-Err-say.ensures.prefix
+pub returns-in-Ok-say-clause-last_line : goal.returns-in-Ok-say-clause-last_line
+returns-in-Ok-say-clause-last_line g c = says-nothing c.in-Ok-printed.field-0.status (g.O.Sink.written c.args.out.now) (g.O.Sink.written c.say.new.out)
+    (Rose (g.O.Sink.faults c.args.out.now) (g.O.Sink.faults c.say.new.out)) c.in-Ok-printed.ensures.ended
+
+pub returns-in-Ok-printed-clause-sink_fault : goal.returns-in-Ok-printed-clause-sink_fault
+returns-in-Ok-printed-clause-sink_fault g c = λ _. prints_prefix (g.A.Archive.logs c.args.archive.now) c.args.seq (option_map (λ v. v.items) c.in-Ok.log)
+    c.in-Ok-printed.field-0 c.deref.result.now (g.O.Sink.written c.args.out.now) (g.O.Sink.written c.say.new.out) (Rose (g.O.Sink.faults c.args.out.now) (g.O.Sink.faults c.say.new.out))
+    c.in-Ok.ensures.whole c.in-Ok-printed.ensures c.deref.ensures.value c.in-Err-say.ensures.prefix
