@@ -1,2 +1,4 @@
 pub mod Lines
 pub mod Status
+pub mod Replay
+pub mod Events
