@@ -1,5 +1,5 @@
 -- Short laws of the forms of keys.
-use Rattle.std.proofs.Common.{◌≡◌, ◌≤◌, ◌<◌, ◌+◌, ℕ, suc, List, [], ◌∷◌, length, arith, true, false, Bool, ◌&&◌, nat_le, nat_lt, refl}
+use Rattle.std.proofs.Common.{◌≡◌, ◌≤◌, ◌<◌, ◌+◌, ℕ, List, [], ◌∷◌, length, arith, true, false, Bool, ◌&&◌, nat_le, nat_lt, refl}
 use Rattle.std.proofs.lemmas.Bool.Decides.{nat_tests}
 use Rattle.redo_vec.specs.Forms.{rises, is_key_columns}
 

@@ -1,8 +1,8 @@
 -- Tables whose ids rise: where the table of an id stands, and where a new one goes.
-use Rattle.std.proofs.Common.{◌≡◌, ◌≤◌, ◌<◌, ◌+◌, ℕ, zero, suc, List, [], ◌∷◌, ◌++◌, length, take, drop, get_or, slice_get, arith, true, false, Bool, cond, ◌&&◌, ◌||◌, ◌==◌, nat_le, nat_lt, refl, sym, ap, ◌∙◌, Option, Some, None}
+use Rattle.std.proofs.Common.{◌≡◌, ◌≤◌, ◌<◌, ◌+◌, ℕ, zero, suc, List, [], ◌∷◌, length, get_or, slice_get, arith, true, false, Bool, cond, ◌&&◌, ◌||◌, ◌==◌, nat_le, nat_lt, refl, sym, ap, ◌∙◌, Some, None}
 use Rattle.std.proofs.lemmas.Bool.Decides.{nat_tests}
-use Rattle.std.specs.List.{AllWithin, insert, find, list_any}
-use Rattle.std.specs.List.Sorted.{IsPartitionedBy, IsPartitionPoint}
+use Rattle.std.specs.List.{AllWithin, insert, list_any}
+use Rattle.std.specs.List.Sorted.{IsPartitionedBy}
 use Rattle.rl_value.specs.Order.{same_bytes}
 use Rattle.redo_vec.specs.declared.table.TableRow.{TableRow}
 use Rattle.redo_dict.specs.Found.{if_named}

@@ -2,9 +2,9 @@
 //!
 //! Its tables stand in rising order of their ids, so a table is found by binary search. What it takes and accepts is tested
 //! in `table_form` and `change_form`.
-ghost use Rattle.std.specs.Prelude.{◌≡◌, ◌≤◌, IsTrue, IfOk, IfSome, OnOk, OnErr, IsSome, Option, Some, None, length};
+ghost use Rattle.std.specs.Prelude.{◌≡◌, ◌≤◌, IsTrue, IfOk, IfSome, OnOk, OnErr, IsSome, Option, Some, None, length, false};
 ghost use Rattle.std.specs.Option.{option_map, option_copied};
-ghost use Rattle.redo_spec.specs.Dictionary.{Dictionary, no_dictionary, dictionary_after, table_fault, table_of, id_of, ids_rise, with_table};
+ghost use Rattle.redo_spec.specs.Dictionary.{Dictionary, no_dictionary, dictionary_after, table_fault, table_of, id_of, ids_rise, with_table, has_bad_keys};
 ghost use Rattle.redo_spec.specs.ChangeForm.{change_fault, is_row_of};
 ghost use Rattle.redo_vec.specs.declared.vector.Vector.TheVariants.{Table, DictEnd};
 ghost use Rattle.redo_dict.specs.Refusals.{Takes, Accepts};
@@ -28,14 +28,15 @@ pub struct Dict {
 }
 
 impl Model for Dict {
-    ghost use Rattle.std.specs.Prelude.{IsTrue};
-    ghost use Rattle.redo_spec.specs.Dictionary.{Dictionary, ids_rise};
+    ghost use Rattle.std.specs.Prelude.{◌≡◌, IsTrue, false};
+    ghost use Rattle.std.specs.List.{list_any};
+    ghost use Rattle.redo_spec.specs.Dictionary.{Dictionary, ids_rise, has_bad_keys};
 
     ghost Value = { Dictionary };
 
     ghost view = { λ d. record { tables = d.tables.items; finished = d.finished } };
 
-    ghost invariant = { λ d. IsTrue (ids_rise 0 d.tables.items) };
+    ghost invariant = { λ d. IsTrue (ids_rise 0 d.tables.items) × (list_any has_bad_keys d.tables.items ≡ false) };
 }
 
 impl Dict {
@@ -89,6 +90,7 @@ impl Dict {
     pub fn def(&self, id: u32) -> Option<&TableRow>
         ensures found { option_copied result ≡ table_of self.now.tables id }
         ensures rising { IsTrue (ids_rise 0 self.now.tables) }
+        ensures keys { IfSome result (λ table. has_bad_keys table.now ≡ false) }
     {
         table_at(self.tables.as_slice(), id)
     }

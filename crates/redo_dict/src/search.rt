@@ -3,7 +3,7 @@ ghost use Rattle.std.specs.Prelude.{◌≡◌, ◌≤◌, ◌&&◌, IsTrue, OnOk
 ghost use Rattle.std.specs.List.Sorted.{IsPartitionPoint};
 ghost use Rattle.std.specs.Option.{option_copied};
 ghost use Rattle.rl_value.specs.Order.{same_bytes};
-ghost use Rattle.redo_spec.specs.Dictionary.{ids_rise, table_of, id_of, same_table, with_table};
+ghost use Rattle.redo_spec.specs.Dictionary.{ids_rise, table_of, id_of, same_table, with_table, has_bad_keys};
 ghost use Rattle.std.specs.List.{list_any};
 ghost use Rattle.redo_dict.specs.Found.{if_named};
 
@@ -60,12 +60,14 @@ pub fn id_at(tables: &[TableRow], schema: &[u8], name: &[u8]) -> Option<u32>
 }
 
 /// Puts a new table in its place. Where memory is refused it comes back, and the others stay as they were.
-#[tactic(auto, using(crate::proofs::Rising::inserted_at, crate::proofs::Rising::rises_with))]
+#[tactic(auto, using(crate::proofs::Rising::inserted_at, crate::proofs::Rising::rises_with, crate::proofs::Keys::keys_with))]
 pub fn insert_table(tables: &mut Vec<TableRow>, table: TableRow) -> Result<(), TableRow>
     requires rising { IsTrue (ids_rise 0 tables.old.items) }
     requires other { list_any (same_table table) tables.old.items ≡ false }
+    requires keys { (list_any has_bad_keys tables.old.items ≡ false) × (has_bad_keys table ≡ false) }
     ensures placed { OnOk result (tables.new.items ≡ with_table table tables.old.items) }
     ensures rising { OnOk result (IsTrue (ids_rise 0 tables.new.items)) }
+    ensures keys { OnOk result (list_any has_bad_keys tables.new.items ≡ false) }
     ensures unchanged { OnErr result (tables.new.items ≡ tables.old.items) }
     ensures back { IfErr result (λ back. back ≡ table) }
 {

@@ -263,6 +263,7 @@ fn has_table(tables: &[TableRow], table: &TableRow) -> bool
 pub fn table_refusal(tables: &[TableRow], table: &TableRow) -> Option<DictFault>
     ensures none { result ≡ None → table_fault tables.now table.now ≡ None }
     ensures other { result ≡ None → list_any (same_table table.now) tables.now ≡ false }
+    ensures keys { result ≡ None → has_bad_keys table.now ≡ false }
     ensures some { IfSome result (λ fault. (fault ≢ DictFault.Memory) × IsTableRefusal fault (table_fault tables.now table.now)) }
 {
     if has_table(tables, table) {
