@@ -1,10 +1,8 @@
 -- Cells behind cells, values one behind the other, and the keys of a table one behind the other.
-use Rattle.std.proofs.Common.{◌≡◌, ℕ, ◌+◌, ◌≤◌, ◌<◌, List, [], ◌∷◌, ◌++◌, length, map, refl, sym, ap, ◌∙◌, Bool, true, false, cond, ◌&&◌, ◌==◌, nat_le, nat_lt, Option, Some, None, append_assoc, arith}
-use Rattle.std.proofs.lemmas.List.{append-nil}
+use Rattle.std.proofs.Common.{◌≡◌, ℕ, ◌+◌, ◌≤◌, ◌<◌, List, [], ◌∷◌, ◌++◌, length, refl, ap, Bool, true, false, cond, ◌&&◌, ◌==◌, nat_le, nat_lt, Option, Some, None, append_assoc, arith}
 use Rattle.std.proofs.lemmas.Bool.Decides.{nat_tests}
 use Rattle.std.specs.Option.{option_map, option_or}
 use Rattle.rl_value.specs.declared.value.Value.{Value}
-use Rattle.rl_value.specs.Outcome.{all_of}
 use Rattle.redo_vec.specs.Forms.{are_keys, is_key_columns, rises}
 use Rattle.redo_spec.specs.ConflictKeys.{cell_at}
 

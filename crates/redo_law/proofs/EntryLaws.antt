@@ -1,9 +1,9 @@
 -- The open transactions by the position of their START, as the list in that order.
-use Rattle.std.proofs.Common.{◌≡◌, ℕ, ◌+◌, List, [], ◌∷◌, ◌++◌, length, map, refl, sym, ap, ◌∙◌, subst, Bool, true, false, cond, not, Option, Some, None, Ordering, Less, Equal, Greater, arith}
+use Rattle.std.proofs.Common.{◌≡◌, ◌+◌, List, [], ◌∷◌, ◌++◌, length, refl, sym, ap, ◌∙◌, subst, true, false, cond, not, Option, Some, None, Ordering, Less, Greater, arith}
 use Rattle.std.proofs.lemmas.List.Sums.{sum_by-append}
 use Rattle.std.proofs.lemmas.Map.Keys.{sorted_head, sorted_tail}
 use Rattle.std.proofs.lemmas.Cmp.{tied_itself}
-use Rattle.std.specs.List.{AllByRecursion, sum_by}
+use Rattle.std.specs.List.{AllByRecursion}
 use Rattle.std.specs.List.Sorted.{IsStrictlySortedBy}
 use Rattle.std.specs.Map.{keys_of, lookup, set_value, remove_entry}
 use Rattle.std.specs.BTreeMap.{is_at, insert_entry}
@@ -17,7 +17,7 @@ use Rattle.redo_law.specs.declared.survivors.Open.{Open}
 use Rattle.redo_law.specs.Calls.{open_of}
 use Rattle.redo_law.specs.Held.{pos_cmp, xid_cmp, Apart}
 use Rattle.redo_law.specs.OpenTable.{opened, opened_all, changes_of, BeganBefore}
-use Rattle.redo_law.proofs.Ids.{pos_total, xid_is, xid_at, xid_itself}
+use Rattle.redo_law.proofs.Ids.{pos_total, xid_is, xid_at}
 use Rattle.redo_law.proofs.OpenList.{Keeps, with_open_none, closed_none, open_after_push, open_changed, open_beside_changed, open_closed, open_beside_closed}
 
 abbrev Sorted : List (Pos × Open) → Type 0

@@ -1,5 +1,5 @@
 -- The table of locks agrees with the open transactions after each change of both.
-use Rattle.std.proofs.Common.{◌≡◌, ℕ, ◌+◌, ◌-◌, ◌≤◌, ◌<◌, List, [], ◌∷◌, ◌++◌, length, take, refl, sym, ap, ◌∙◌, Bool, true, false, cond, not, ◌&&◌, ◌||◌, ◌==◌, Option, Some, None, arith}
+use Rattle.std.proofs.Common.{◌≡◌, ℕ, ◌+◌, ◌-◌, ◌<◌, List, [], ◌∷◌, ◌++◌, length, take, refl, sym, ap, ◌∙◌, Bool, true, false, cond, ◌&&◌, ◌||◌, ◌==◌, Option, Some, None, arith}
 use Rattle.std.proofs.lemmas.Bool.Decides.{nat_tests}
 use Rattle.std.specs.List.{list_any}
 use Rattle.std.specs.Option.{option_map, option_or}
@@ -9,9 +9,9 @@ use Rattle.redo_spec.specs.History.{same_xid}
 use Rattle.redo_spec.specs.Standing.{OpenTxn, with_open, closed, touching, giving_back}
 use Rattle.redo_law.specs.declared.hold.Hold.{Hold}
 use Rattle.redo_law.specs.Calls.{open_of}
-use Rattle.redo_law.specs.Held.{Holds, has_key, first_from, place_in, own_place, is_hold, Apart}
-use Rattle.redo_law.proofs.Ids.{both, xid_is, xid_itself, xid_sym}
-use Rattle.redo_law.proofs.OpenList.{Keeps, open_after_push, open_changed, open_beside_changed, open_closed, open_beside_closed}
+use Rattle.redo_law.specs.Held.{Holds, has_key, first_from, place_in, own_place, is_hold}
+use Rattle.redo_law.proofs.Ids.{xid_is, xid_itself}
+use Rattle.redo_law.proofs.OpenList.{open_after_push, open_changed, open_beside_changed, open_closed, open_beside_closed}
 
 abbrev number_if : Bool → ℕ → Option ℕ
 number_if b n = cond b (Some n) None

@@ -1,10 +1,9 @@
 -- Transaction ids and positions: equal exactly where their order says so.
-use Rattle.std.proofs.Common.{◌≡◌, ℕ, refl, sym, ap, ◌∙◌, Bool, true, false, cond, ◌&&◌, ◌==◌, nat_lt, arith}
+use Rattle.std.proofs.Common.{◌≡◌, ℕ, refl, Bool, true, false, ◌&&◌, ◌==◌, arith}
 use Rattle.std.proofs.lemmas.Bool.Decides.{nat_tests}
 use Rattle.std.proofs.Common.{Ordering, Less, Equal, Greater}
-use Rattle.std.specs.Ordering.{is_eq, nat_cmp, on, then_cmp, ordering_then}
+use Rattle.std.specs.Ordering.{is_eq, nat_cmp, ordering_then}
 use Rattle.std.specs.Cmp.{IsTotalOrder, on_total, then_total, nat_cmp_total}
-use Rattle.rl_value.specs.declared.pos.Pos.{Pos}
 use Rattle.rl_value.specs.declared.xid.Xid.{Xid}
 use Rattle.redo_spec.specs.History.{same_xid}
 use Rattle.redo_law.specs.Held.{pos_cmp, xid_cmp}
@@ -57,3 +56,6 @@ xid_at x y =
 
 pub pos_total : IsTotalOrder pos_cmp
 pos_total = then_total (on_total (λ p. p.rec) nat_cmp_total) (on_total (λ p. p.vec) nat_cmp_total)
+
+pub xid_total : IsTotalOrder xid_cmp
+xid_total = then_total (on_total (λ x. x.usn) nat_cmp_total) (then_total (on_total (λ x. x.slot) nat_cmp_total) (on_total (λ x. x.sqn) nat_cmp_total))

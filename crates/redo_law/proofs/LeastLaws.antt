@@ -14,7 +14,7 @@ use Rattle.redo_law.specs.declared.hold.Hold.{Hold}
 use Rattle.redo_law.specs.Calls.{open_of}
 use Rattle.redo_law.specs.Held.{Holds, has_key, first_from, place_in, own_place, if_blocked, blocked, kept_out, Apart}
 use Rattle.redo_law.proofs.Exact.{key_exact, key_is, key_itself}
-use Rattle.redo_law.proofs.Ids.{both, xid_is, xid_itself, xid_sym}
+use Rattle.redo_law.proofs.Ids.{both, xid_is, xid_itself}
 use Rattle.redo_law.proofs.OpenList.{found_id}
 use Rattle.redo_law.proofs.HoldLaws.{first_none, first_some}
 

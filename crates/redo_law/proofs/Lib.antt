@@ -9,3 +9,4 @@ mod TableLaws
 mod CellLaws
 mod KeySetLaws
 mod BeganLaws
+mod CopyLaws

@@ -1,5 +1,5 @@
 -- Lists of open transactions, of which no two have one id: which one an id names, after each change of the list.
-use Rattle.std.proofs.Common.{◌≡◌, ℕ, ◌+◌, ◌-◌, ◌≤◌, List, [], ◌∷◌, ◌++◌, length, map, filter, refl, sym, ap, ◌∙◌, Bool, true, false, cond, not, ◌&&◌, ◌||◌, Option, Some, None, arith}
+use Rattle.std.proofs.Common.{◌≡◌, List, [], ◌∷◌, ◌++◌, refl, sym, ap, ◌∙◌, Bool, true, false, cond, not, ◌&&◌, ◌||◌, Option, Some, None}
 use Rattle.std.specs.List.{list_any}
 use Rattle.std.specs.Option.{option_map, option_or, is_some}
 use Rattle.rl_value.specs.declared.xid.Xid.{Xid}
@@ -8,7 +8,7 @@ use Rattle.redo_spec.specs.History.{same_xid}
 use Rattle.redo_spec.specs.Standing.{OpenTxn, with_open, closed}
 use Rattle.redo_law.specs.Calls.{open_of}
 use Rattle.redo_law.specs.Held.{Apart}
-use Rattle.redo_law.proofs.Ids.{xid_is, xid_itself, xid_sym}
+use Rattle.redo_law.proofs.Ids.{xid_is, xid_sym}
 
 -- a change of a transaction that leaves its id
 abbrev pub Keeps : (OpenTxn → OpenTxn) → Type 0

@@ -1,12 +1,12 @@
 -- A table stays one in each call: its list is what the standing says, and its parts fit each other.
-use Rattle.std.proofs.Common.{◌≡◌, ℕ, ◌+◌, ◌-◌, ◌≤◌, List, [], ◌∷◌, ◌++◌, length, take, map, refl, sym, ap, ◌∙◌, subst, Bool, true, false, cond, ◌&&◌, Option, Some, None, arith, add-zero}
+use Rattle.std.proofs.Common.{◌≡◌, ℕ, ◌+◌, ◌-◌, ◌≤◌, List, [], ◌∷◌, ◌++◌, length, take, refl, sym, ap, ◌∙◌, subst, false, cond, Option, Some, None, arith}
 use Rattle.std.proofs.lemmas.List.{length-append}
 use Rattle.std.proofs.Math.Seq.{take-append_seam}
 use Rattle.std.specs.BTreeMap as tree
 use Rattle.std.specs.BTreeMap.{is_at, insert_entry}
 use Rattle.std.specs.Map.{set_value, remove_entry}
 use Rattle.std.specs.List.{list_any}
-use Rattle.std.specs.Option.{option_map, option_or, is_some}
+use Rattle.std.specs.Option.{option_map, is_some}
 use Rattle.redo_spec.specs.History.{same_xid}
 use Rattle.rl_value.specs.declared.key.Key.{Key}
 use Rattle.rl_value.specs.declared.pos.Pos.{Pos}
@@ -18,10 +18,10 @@ use Rattle.redo_law.specs.declared.hold.Hold.{Hold}
 use Rattle.redo_law.specs.declared.survivors.Open.{Open}
 use Rattle.redo_law.specs.declared.table.Table.{Table}
 use Rattle.redo_law.specs.Calls.{open_of}
-use Rattle.redo_law.specs.Held.{pos_cmp, xid_cmp, has_key, Holds, Apart, is_hold, taken, freed_at, freed_each, kept_out, blocked}
-use Rattle.redo_law.specs.OpenTable.{opened, opened_all, txns_of, changes_of, Keeps, IsTable, BeganBefore, GivesBack}
-use Rattle.redo_law.proofs.OpenList.{any_open, found_id, with_open_none, closed_none, apart_push, apart_changed, apart_closed}
-use Rattle.redo_law.proofs.HoldLaws.{holds_start, holds_touch, holds_undo, holds_bare, holds_close, holds_none}
+use Rattle.redo_law.specs.Held.{pos_cmp, xid_cmp, Holds, taken, freed_at, freed_each, kept_out}
+use Rattle.redo_law.specs.OpenTable.{opened, opened_all, txns_of, Keeps, IsTable, BeganBefore, GivesBack}
+use Rattle.redo_law.proofs.OpenList.{any_open, found_id, apart_push, apart_changed, apart_closed}
+use Rattle.redo_law.proofs.HoldLaws.{holds_start, holds_touch, holds_undo, holds_bare, holds_close}
 use Rattle.redo_law.proofs.LeastLaws.{least_blocked, free_of_blocked}
 use Rattle.redo_law.proofs.EntryLaws.{kept_at, set_changed, removed_closed, inserted_last, count_push, count_changed, count_closed, starts_push, starts_changed, starts_closed}
 

@@ -1,6 +1,6 @@
 -- Who holds a key: the open transaction of which a surviving change touches it, and the first such change.
 -- The changes of a transaction are counted from 0, the oldest first.
-use Rattle.std.specs.Prelude.{◌≡◌, ℕ, ◌+◌, List, [], ◌∷◌, length, map, Bool, true, false, cond, ◌&&◌, ◌==◌, Option, Some, None, sum_by, filter, not, ⊤}
+use Rattle.std.specs.Prelude.{◌≡◌, ℕ, ◌+◌, List, [], ◌∷◌, Bool, false, cond, ◌&&◌, ◌==◌, Option, Some, None, filter, not, ⊤}
 use Rattle.std.specs.List.{list_any}
 use Rattle.std.specs.Option.{option_or}
 use Rattle.std.specs.declared.cmp.Ordering.{Ordering}

@@ -58,6 +58,14 @@ impl Law {
         })
     }
 
+    /// An equal one, which owns memory of its own.
+    pub fn copy(&self) -> Result<Law, NoMemory>
+        ensures { IfOk result (λ copy. copy ≡ self.now) }
+    {
+        let state = self.state.copy()?;
+        Ok(Law { state })
+    }
+
     /// Takes the next record of the redo, in a log of this header. After a refusal the law is spent: of its calls only
     /// `dict` and `into_dict` follow. They have then the tables of the vectors before the refused one.
     pub fn admit(&mut self, head: &Header, rec: &RedoRec) -> Result<(), AdmitFault>

@@ -2,6 +2,7 @@
 #![tactic(auto)]
 
 mod conflicts;
+mod copies;
 mod fault;
 mod hold;
 mod law;
@@ -10,6 +11,8 @@ mod start;
 mod state;
 mod survivors;
 mod table;
+#[cfg(test)]
+mod tests;
 mod touching;
 
 pub use fault::AdmitFault;

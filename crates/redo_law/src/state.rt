@@ -2,7 +2,7 @@
 //!
 //! The tests of a vector stand in the order of their causes. A refused vector leaves the dictionary as it was; where memory
 //! is refused, the open transactions are no longer of use.
-ghost use Rattle.std.specs.Prelude.{◌≡◌, ◌+◌, ◌<◌, ◌≤◌, ◌^◌, ◌&&◌, ◌||◌, not, nat_le, nat_lt, ◌==◌, OnOk, IfOk, IfErr, IfSome, length, [], ◌∷◌, Option, Some, None};
+ghost use Rattle.std.specs.Prelude.{◌≡◌, ◌+◌, ◌<◌, ◌≤◌, ◌^◌, ◌&&◌, ◌||◌, not, ℕ, nat_le, nat_lt, ◌==◌, OnOk, IfOk, IfErr, IfSome, length, [], ◌∷◌, Option, Some, None};
 ghost use Rattle.std.specs.List.{list_any};
 ghost use Rattle.redo_vec.specs.declared.vector.Vector.TheVariants.{Start, Change as OfChange, Undo as OfUndo, Commit as OfCommit, Rollback as OfRollback, Table as OfTable, DictEnd as OfDictEnd};
 ghost use Rattle.redo_spec.specs.ChangeForm.{change_fault};
@@ -26,7 +26,7 @@ use crate::table::Table;
 use redo_dict::{ChangeFault, Dict, DictFault};
 use redo_spec::Header;
 use redo_vec::{Change, RedoRec, TableRow, Vector};
-use rl_value::{Key, LawFault, Pos, Scn, Xid};
+use rl_value::{Key, LawFault, NoMemory, Pos, Scn, Xid};
 use std::alloc::Global;
 
 /// The most surviving changes that open transactions may have together.
@@ -211,14 +211,13 @@ impl State {
     }
 
     // A change of an open transaction.
-    fn make_change(&mut self, vec: u8, change: &Change) -> Result<(), AdmitFault>
+    fn make_change(&mut self, change: &Change) -> Result<(), AdmitFault>
         requires { IsTable self.old.table }
         ensures table { OnOk result (IsTable self.new.table) }
-        ensures done { OnOk result (seen self.new ≡ standing_after vec (OfChange change.now) (seen self.old)) }
+        ensures done { (vec : ℕ) → OnOk result (seen self.new ≡ standing_after vec (OfChange change.now) (seen self.old)) }
         ensures exact { Judges (made_fault (seen self.old) change.now) result }
         ensures left { Leaves self.old.dict self.new.dict result }
     {
-        let _ = vec;
         if let Err(fault) = self.dict.check_change(change) {
             return Err(AdmitFault::Law(law_fault_of(fault)));
         }
@@ -236,7 +235,7 @@ impl State {
         ensures left { Leaves self.old.dict self.new.dict result }
     {
         if self.is_open(change.xid) {
-            return self.make_change(vec, change);
+            return self.make_change(change);
         }
         if self.is_known() {
             return Ok(());
@@ -244,14 +243,13 @@ impl State {
         Err(AdmitFault::Law(LawFault::NotOpen))
     }
 
-    fn undo(&mut self, vec: u8, xid: Xid) -> Result<(), AdmitFault>
+    fn undo(&mut self, xid: Xid) -> Result<(), AdmitFault>
         requires { IsTable self.old.table }
         ensures table { OnOk result (IsTable self.new.table) }
-        ensures done { OnOk result (seen self.new ≡ standing_after vec (OfUndo xid) (seen self.old)) }
+        ensures done { (vec : ℕ) → OnOk result (seen self.new ≡ standing_after vec (OfUndo xid) (seen self.old)) }
         ensures exact { Judges (own_fault (seen self.old) (OfUndo xid)) result }
         ensures left { Leaves self.old.dict self.new.dict result }
     {
-        let _ = vec;
         if !self.is_open(xid) && !self.is_known() {
             return Err(AdmitFault::Law(LawFault::NotOpen));
         }
@@ -262,14 +260,13 @@ impl State {
         Ok(())
     }
 
-    fn commit(&mut self, vec: u8, xid: Xid) -> Result<(), AdmitFault>
+    fn commit(&mut self, xid: Xid) -> Result<(), AdmitFault>
         requires { IsTable self.old.table }
         ensures table { OnOk result (IsTable self.new.table) }
-        ensures done { OnOk result (seen self.new ≡ standing_after vec (OfCommit xid) (seen self.old)) }
+        ensures done { (vec : ℕ) → OnOk result (seen self.new ≡ standing_after vec (OfCommit xid) (seen self.old)) }
         ensures exact { Judges (own_fault (seen self.old) (OfCommit xid)) result }
         ensures left { Leaves self.old.dict self.new.dict result }
     {
-        let _ = vec;
         if !self.is_open(xid) && !self.is_known() {
             return Err(AdmitFault::Law(LawFault::NotOpen));
         }
@@ -281,14 +278,13 @@ impl State {
         Ok(())
     }
 
-    fn rollback(&mut self, vec: u8, xid: Xid) -> Result<(), AdmitFault>
+    fn rollback(&mut self, xid: Xid) -> Result<(), AdmitFault>
         requires { IsTable self.old.table }
         ensures table { OnOk result (IsTable self.new.table) }
-        ensures done { OnOk result (seen self.new ≡ standing_after vec (OfRollback xid) (seen self.old)) }
+        ensures done { (vec : ℕ) → OnOk result (seen self.new ≡ standing_after vec (OfRollback xid) (seen self.old)) }
         ensures exact { Judges (own_fault (seen self.old) (OfRollback xid)) result }
         ensures left { Leaves self.old.dict self.new.dict result }
     {
-        let _ = vec;
         if !self.is_open(xid) && !self.is_known() {
             return Err(AdmitFault::Law(LawFault::NotOpen));
         }
@@ -296,14 +292,13 @@ impl State {
         Ok(())
     }
 
-    fn add_table(&mut self, vec: u8, row: &TableRow) -> Result<(), AdmitFault>
+    fn add_table(&mut self, row: &TableRow) -> Result<(), AdmitFault>
         requires { IsTable self.old.table }
         ensures table { OnOk result (IsTable self.new.table) }
-        ensures done { OnOk result (seen self.new ≡ standing_after vec (OfTable row.now) (seen self.old)) }
+        ensures done { (vec : ℕ) → OnOk result (seen self.new ≡ standing_after vec (OfTable row.now) (seen self.old)) }
         ensures exact { Judges (own_fault (seen self.old) (OfTable row.now)) result }
         ensures left { Leaves self.old.dict self.new.dict result }
     {
-        let _ = vec;
         let Ok(row) = row.copy() else {
             return Err(AdmitFault::Memory);
         };
@@ -313,12 +308,11 @@ impl State {
         }
     }
 
-    fn end_dictionary(&mut self, vec: u8)
+    fn end_dictionary(&mut self)
         requires { IsTable self.old.table }
         ensures table { IsTable self.new.table }
-        ensures done { seen self.new ≡ standing_after vec OfDictEnd (seen self.old) }
+        ensures done { (vec : ℕ) → seen self.new ≡ standing_after vec OfDictEnd (seen self.old) }
     {
-        let _ = vec;
         self.dict.finish();
     }
 
@@ -334,12 +328,12 @@ impl State {
         match vector {
             Vector::Start(xid) => self.start(vec, *xid),
             Vector::Change(change) => self.change(vec, change),
-            Vector::Undo(xid) => self.undo(vec, *xid),
-            Vector::Commit(xid) => self.commit(vec, *xid),
-            Vector::Rollback(xid) => self.rollback(vec, *xid),
-            Vector::Table(row) => self.add_table(vec, row),
+            Vector::Undo(xid) => self.undo(*xid),
+            Vector::Commit(xid) => self.commit(*xid),
+            Vector::Rollback(xid) => self.rollback(*xid),
+            Vector::Table(row) => self.add_table(row),
             Vector::DictEnd => {
-                self.end_dictionary(vec);
+                self.end_dictionary();
                 Ok(())
             }
         }
@@ -381,6 +375,28 @@ impl State {
             vec += 1;
         }
         Ok(())
+    }
+
+    /// An equal one, which owns memory of its own.
+    #[tactic(auto, using(crate::proofs::CopyLaws::began_too))]
+    pub fn copy(&self) -> Result<State, NoMemory>
+        requires { IsReady self.now }
+        ensures ready { IfOk result (λ copy. IsReady copy) }
+        ensures same { IfOk result (λ copy. seen copy ≡ seen self.now) }
+    {
+        let dict = self.dict.copy()?;
+        let table = self.table.copy(self.alloc)?;
+        Ok(State {
+            alloc: self.alloc,
+            first: self.first,
+            known: self.known,
+            rec: self.rec,
+            head: self.head,
+            scn: self.scn,
+            commit_scn: self.commit_scn,
+            dict,
+            table,
+        })
     }
 
     /// Takes the next record, if there is no reason against it.

@@ -1,5 +1,5 @@
 //! An open transaction: the keys that each of its surviving changes touches, the oldest first.
-ghost use Rattle.std.specs.Prelude.{◌≡◌, ◌++◌, ◌∷◌, [], OnOk, MatchOption, length};
+ghost use Rattle.std.specs.Prelude.{◌≡◌, ◌++◌, ◌∷◌, [], OnOk, IfOk, MatchOption, length};
 
 use rl_value::{Key, NoMemory, Xid};
 use std::alloc::Global;
@@ -25,6 +25,14 @@ impl TouchedKeys {
         ensures { result ≡ keys.items }
     {
         TouchedKeys { keys }
+    }
+
+    /// Equal ones, which own memory of their own.
+    pub fn copy(&self) -> Result<TouchedKeys, NoMemory>
+        ensures { IfOk result (λ copy. copy ≡ self.now) }
+    {
+        let keys = copied_keys(&self.keys)?;
+        Ok(TouchedKeys { keys })
     }
 
     pub fn items(&self) -> &[Key]
@@ -58,6 +66,14 @@ impl Survivors {
         }
     }
 
+    /// Equal ones, which own memory of their own.
+    pub fn copy(&self) -> Result<Survivors, NoMemory>
+        ensures { IfOk result (λ copy. copy ≡ self.now) }
+    {
+        let changes = copied_changes(&self.changes)?;
+        Ok(Survivors { changes })
+    }
+
     pub fn items(&self) -> &[TouchedKeys]
         ensures { result.now ≡ self.now }
     {
@@ -86,4 +102,47 @@ impl Survivors {
 pub struct Open {
     pub xid: Xid,
     pub keys: Survivors,
+}
+
+impl Open {
+    /// An equal one, which owns memory of its own.
+    pub fn copy(&self) -> Result<Open, NoMemory>
+        ensures { IfOk result (λ copy. copy ≡ self.now) }
+    {
+        let keys = self.keys.copy()?;
+        Ok(Open {
+            xid: self.xid,
+            keys,
+        })
+    }
+}
+
+fn copied_keys(keys: &Vec<Key>) -> Result<Vec<Key>, NoMemory>
+    ensures { IfOk result (λ copies. copies.items ≡ keys.now.items) }
+{
+    let Ok(mut copies) = Vec::with_capacity(*keys.allocator(), keys.len()) else {
+        return Err(NoMemory);
+    };
+    for key in keys {
+        let key = key.copy()?;
+        if copies.push(key).is_err() {
+            return Err(NoMemory);
+        }
+    }
+    Ok(copies)
+}
+
+fn copied_changes(changes: &Vec<TouchedKeys>) -> Result<Vec<TouchedKeys>, NoMemory>
+    ensures { IfOk result (λ copies. copies.items ≡ changes.now.items) }
+{
+    let Ok(mut copies) = Vec::with_capacity(*changes.allocator(), changes.len()) else {
+        return Err(NoMemory);
+    };
+    for change in changes {
+        let change = change.copy()?;
+        if copies.push(change).is_err() {
+            return Err(NoMemory);
+        }
+    }
+    Ok(copies)
 }

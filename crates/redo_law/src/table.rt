@@ -2,7 +2,7 @@
 //!
 //! Each stands by the position of its START, so that those of a standing come in order. An id leads to its START, and each
 //! key that is touched to its holder, so that no call walks over the open transactions or their changes.
-ghost use Rattle.std.specs.Prelude.{◌≡◌, ◌++◌, ◌∷◌, [], ◌<◌, ◌≤◌, ◌^◌, length, OnOk, Option, None, ◌&&◌};
+ghost use Rattle.std.specs.Prelude.{◌≡◌, ◌++◌, ◌∷◌, [], ◌<◌, ◌≤◌, ◌^◌, length, OnOk, IfOk, Option, None, ◌&&◌};
 ghost use Rattle.std.specs.BTreeMap as tree;
 ghost use Rattle.rl_value.specs.Order.{key_cmp};
 ghost use Rattle.redo_spec.specs.Locks.{least};
@@ -16,6 +16,7 @@ ghost use Rattle.redo_law.specs.Calls.{open_of, start_rec};
 ghost use Rattle.redo_law.specs.Held.{taken, kept_out};
 ghost use Rattle.redo_law.specs.OpenTable.{IsTable, BeganBefore, GivesBack, txns_of, changes_of};
 
+use crate::copies::{copied_locks, copied_txns, copied_xids};
 use crate::hold::Hold;
 use crate::locks::{free_changes, free_keys_of, least_blocked, take_keys};
 use crate::survivors::{Open, Survivors, TouchedKeys};
@@ -93,6 +94,24 @@ impl Table {
         ensures { option_map shown_pair result ≡ least (kept_out xid keys.now (txns_of self.now)) }
     {
         least_blocked(&self.locks, xid, keys)
+    }
+
+    /// An equal one, which owns memory of its own.
+    #[tactic(auto, using(crate::proofs::CopyLaws::copied_table))]
+    pub fn copy(&self, alloc: Global) -> Result<Table, NoMemory>
+        requires { IsTable self.now }
+        ensures table { IfOk result (λ copy. IsTable copy) }
+        ensures same { IfOk result (λ copy. txns_of copy ≡ txns_of self.now) }
+    {
+        let xids = copied_xids(alloc, &self.xids)?;
+        let txns = copied_txns(alloc, &self.txns)?;
+        let locks = copied_locks(alloc, &self.locks)?;
+        Ok(Table {
+            xids,
+            txns,
+            locks,
+            survivors: self.survivors,
+        })
     }
 
     /// Drops all transactions.
@@ -194,28 +213,28 @@ fn has_none(changes: &[TouchedKeys]) -> bool
 }
 
 // The transaction makes a change that touches these keys, and takes those that are free.
-fn take(open: &mut Open, locks: &mut BTreeMap<Key, Hold>, keys: Vec<Key>) -> Result<(), NoMemory>
-    ensures keys { OnOk result (open.new ≡ record open.old { keys = open.old.keys ++ keys.items ∷ [] }) }
-    ensures locks { OnOk result ((q : Key) → tree.get key_cmp locks.new q ≡ taken (tree.get key_cmp locks.old) keys.items (record { holder = open.old.xid; place = length open.old.keys }) q) }
+fn take(txn: &mut Open, locks: &mut BTreeMap<Key, Hold>, keys: Vec<Key>) -> Result<(), NoMemory>
+    ensures keys { OnOk result (txn.new ≡ record txn.old { keys = txn.old.keys ++ keys.items ∷ [] }) }
+    ensures locks { OnOk result ((q : Key) → tree.get key_cmp locks.new q ≡ taken (tree.get key_cmp locks.old) keys.items (record { holder = txn.old.xid; place = length txn.old.keys }) q) }
 {
     let hold = Hold {
-        holder: open.xid,
-        place: open.keys.items().len(),
+        holder: txn.xid,
+        place: txn.keys.items().len(),
     };
     take_keys(locks, keys.as_slice(), hold)?;
-    open.keys.push(TouchedKeys::of(keys))
+    txn.keys.push(TouchedKeys::of(keys))
 }
 
 // Takes the latest change back, and frees the keys that it took. It says how many changes that are.
-fn give_back(open: &mut Open, locks: &mut BTreeMap<Key, Hold>) -> u64
-    ensures { GivesBack open.old open.new (tree.get key_cmp locks.old) (tree.get key_cmp locks.new) result }
+fn give_back(txn: &mut Open, locks: &mut BTreeMap<Key, Hold>) -> u64
+    ensures { GivesBack txn.old txn.new (tree.get key_cmp locks.old) (tree.get key_cmp locks.new) result }
 {
-    let Some(keys) = open.keys.pop() else {
+    let Some(keys) = txn.keys.pop() else {
         return 0;
     };
     let from = Hold {
-        holder: open.xid,
-        place: open.keys.items().len(),
+        holder: txn.xid,
+        place: txn.keys.items().len(),
     };
     free_keys_of(locks, keys.items(), from);
     1

@@ -1,6 +1,6 @@
-use Rattle.std.proofs.Common.{◌≡◌, ◌++◌, sym, ap, ◌∙◌, List, [], OnOk, Ok, Err, Result}
+use Rattle.std.proofs.Common.{◌++◌, sym, ap, ◌∙◌, OnOk, Ok, Err, Result}
 use Rattle.std.proofs.lemmas.List.{append-nil}
-use Rattle.redo_spec.specs.ConflictKeys.{cell_at, keys_given, after_op, put_in}
+use Rattle.redo_spec.specs.ConflictKeys.{cell_at, keys_given, after_op}
 use Rattle.redo_law.proofs.conflicts.add_keys_after.Goals as goal
 
 turned : {A E : Type 0} (r : Result A E) {P Q : Type 0} → (P → Q) → OnOk r P → OnOk r Q

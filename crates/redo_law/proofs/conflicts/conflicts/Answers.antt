@@ -1,4 +1,4 @@
-use Rattle.std.proofs.Common.{◌≡◌, ◌++◌, sym, ap, ◌∙◌, List, []}
+use Rattle.std.proofs.Common.{◌++◌, sym, ap, ◌∙◌, []}
 use Rattle.std.proofs.lemmas.List.{append-nil}
 use Rattle.std.specs.Option.{option_copied}
 use Rattle.redo_spec.specs.ConflictKeys.{cell_at, keys_given, cells_after, conflict_keys_of}

@@ -1,4 +1,4 @@
-use Rattle.std.proofs.Common.{◌≤◌, length, sym, subst, ap, arith}
+use Rattle.std.proofs.Common.{arith}
 use Rattle.redo_law.proofs.CellLaws.{columns_some, columns_few}
 use Rattle.redo_law.proofs.conflicts.values_of.Goals as goal
 

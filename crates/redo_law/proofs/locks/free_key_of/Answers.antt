@@ -1,4 +1,4 @@
-use Rattle.std.proofs.Common.{sym, ◌∙◌, ap, rules}
+use Rattle.std.proofs.Common.{sym, ◌∙◌, ap}
 use Rattle.std.specs.BTreeMap as tree
 use Rattle.rl_value.specs.Order.{key_cmp}
 use Rattle.redo_law.specs.Held.{is_hold}

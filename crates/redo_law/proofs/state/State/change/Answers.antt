@@ -12,3 +12,6 @@ returns-then-is_known-clause-done c =
     ap (λ ts. with_active ts (seen c.args.self.now))
     (sym (with_open_none (touching (conflict_keys c.args.self.now.dict.tables c.args.change.now)) c.args.change.now.xid (txns_of c.args.self.now.table)
     (not_there c.args.change.now.xid (txns_of c.args.self.now.table) (sym c.is_open.ensures ∙ c.if-is_open.false))))
+
+pub returns-then-is_open-clause-done : goal.returns-then-is_open-clause-done
+returns-then-is_open-clause-done c = c.make_change.ensures.done c.args.vec

@@ -1,7 +1,6 @@
-use Rattle.std.proofs.Common.{◌+◌, sym, ap, ◌∙◌, subst, OnOk, Ok, Err, Result}
+use Rattle.std.proofs.Common.{◌+◌, sym, ap, subst, OnOk, Ok, Err, Result}
 use Rattle.redo_spec.specs.Standing.{Standing}
 use Rattle.redo_law.specs.OpenTable.{txns_of, BeganBefore}
-use Rattle.redo_law.specs.Seen.{seen}
 use Rattle.redo_law.proofs.BeganLaws.{began_next}
 use Rattle.redo_law.proofs.state.State.step.Goals as goal
 

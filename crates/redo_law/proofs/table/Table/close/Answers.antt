@@ -1,8 +1,7 @@
-use Rattle.std.proofs.Common.{◌≡◌, ℕ, ◌+◌, ◌-◌, ◌≤◌, [], length, sym, ap, ◌∙◌, refl, cond, Some, None, OnOk, Ok, Err, arith, rules}
+use Rattle.std.proofs.Common.{◌≡◌, ◌+◌, ◌≤◌, [], length, sym, ap, ◌∙◌, arith}
 use Rattle.std.specs.BTreeMap as tree
-use Rattle.std.specs.BTreeMap.{is_at}
 use Rattle.rl_value.specs.Order.{key_cmp}
-use Rattle.redo_law.proofs.OpenList.{with_open_none, closed_none}
+use Rattle.redo_law.proofs.OpenList.{closed_none}
 use Rattle.redo_law.proofs.TableLaws.{located, absent, some_none, some_is, close_list, close_table, count_least}
 use Rattle.redo_law.specs.Held.{freed_each}
 use Rattle.redo_law.proofs.table.Table.close.Goals as goal

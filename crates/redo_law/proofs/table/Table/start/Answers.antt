@@ -1,7 +1,4 @@
-use Rattle.std.proofs.Common.{◌≡◌, ℕ, ◌+◌, ◌-◌, ◌++◌, ◌∷◌, [], length, sym, ap, ◌∙◌, refl, cond, Some, None, OnOk, Ok, Err, arith, rules}
-use Rattle.std.specs.BTreeMap as tree
-use Rattle.std.specs.BTreeMap.{is_at}
-use Rattle.rl_value.specs.Order.{key_cmp}
+use Rattle.std.proofs.Common.{◌++◌, ◌∷◌, [], sym, ap, ◌∙◌, refl}
 use Rattle.redo_law.proofs.LockSteps.{on_ok}
 use Rattle.redo_law.proofs.TableLaws.{start_list, start_table}
 use Rattle.redo_law.specs.OpenTable.{txns_of}

@@ -1,4 +1,4 @@
-use Rattle.std.proofs.Common.{◌≡◌, ℕ, length, sym, ap, ◌∙◌, refl, Some, None, MatchOption}
+use Rattle.std.proofs.Common.{◌≡◌, length, sym, ap, ◌∙◌, refl}
 use Rattle.std.specs.BTreeMap as tree
 use Rattle.std.specs.BTreeMap.{is_at}
 use Rattle.std.specs.Map.{set_value}
@@ -22,7 +22,7 @@ pub returns-in_ok-take-in-Some-get_mut-clause-table : goal.returns-in_ok-take-in
 returns-in_ok-take-in-Some-get_mut-clause-table c =
     let l = located c.args.self.now c.args.xid c.in-Some.start.now c.requires.table (sym c.get.ensures.value ∙ ap option_copied c.in-Some.is) in
     let same : c.in-Some-get_mut.open.now ≡ l.txn = some_is _ _ (sym (ap option_copied_mut c.in-Some-get_mut.is) ∙ c.get_mut.ensures.value ∙ l.kept) in
-    let through = c.get_mut.follows.holds c.take.new.open in
+    let through = c.get_mut.follows.holds c.take.new.txn in
     touch_table c.args.self.now _ c.args.xid c.args.keys.items c.in-Some.start.now c.requires.table l c.requires.free
     (through.0 ∙ ap (set_value (is_at (pos_cmp c.in-Some.start.now)) c.args.self.now.txns.entries) (c.in_ok-take-in-Some-get_mut.ensures.keys ∙ ap (more_keys c.args.keys.items) same))
     through.4 refl
@@ -34,4 +34,4 @@ returns-in_ok-take-in-Some-get_mut-clause-touched c =
     let l = located c.args.self.now c.args.xid c.in-Some.start.now c.requires.table (sym c.get.ensures.value ∙ ap option_copied c.in-Some.is) in
     let same : c.in-Some-get_mut.open.now ≡ l.txn = some_is _ _ (sym (ap option_copied_mut c.in-Some-get_mut.is) ∙ c.get_mut.ensures.value ∙ l.kept) in
     touch_list c.args.self.now _ c.args.xid c.args.keys.items c.in-Some.start.now c.requires.table l
-    ((c.get_mut.follows.holds c.take.new.open).0 ∙ ap (set_value (is_at (pos_cmp c.in-Some.start.now)) c.args.self.now.txns.entries) (c.in_ok-take-in-Some-get_mut.ensures.keys ∙ ap (more_keys c.args.keys.items) same))
+    ((c.get_mut.follows.holds c.take.new.txn).0 ∙ ap (set_value (is_at (pos_cmp c.in-Some.start.now)) c.args.self.now.txns.entries) (c.in_ok-take-in-Some-get_mut.ensures.keys ∙ ap (more_keys c.args.keys.items) same))
