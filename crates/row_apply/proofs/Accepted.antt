@@ -1,4 +1,5 @@
--- What is known of a change that its table accepts: its cells fit, and an insert has one for each column.
+-- What is known of a change that its table accepts: its cells fit, an insert has one for each column, and an update logs what
+-- is supplemental.
 use Rattle.std.proofs.Common.{◌≡◌, List, [], ◌∷◌, length, refl, sym, ap, ◌∙◌, Bool, true, false, not, ◌&&◌, ◌||◌, ◌==◌, arith, Some, None, is_some}
 use Rattle.std.proofs.lemmas.Bool.Decides.{nat_tests}
 use Rattle.std.specs.FinMap.Entries as entries
@@ -23,14 +24,16 @@ no_fault : (b : Bool) (f : LawFault) (rest : List (Bool × LawFault)) → first_
 no_fault true f rest e = absurd (cc)
 no_fault false f rest e = (refl, e)
 
-holds : (b : Bool) → not b ≡ false → b ≡ true
+pub holds : (b : Bool) → not b ≡ false → b ≡ true
 holds true e = refl
 holds false e = absurd (cc)
 
 pub record AreAccepted (t : TableRow) (c : Change) : Type 0 where
   pub within : beyond t c.new ≡ false
+  pub within_old : beyond t c.old ≡ false
   pub shape : wrong_cells t c.op c.old c.new ≡ false
   pub fit : cells_fit t c.new ≡ true
+  pub logged : wrong_supplement t c.op c.old c.new ≡ false
 
 pub accepted : (t : TableRow) (c : Change) → change_fault_in t c ≡ None → AreAccepted t c
 accepted t c e =
@@ -40,8 +43,10 @@ accepted t c e =
     let r = either (beyond t c.old || beyond t c.new) (wrong_cells t c.op c.old c.new) p.0 in
     record {
       within = (either (beyond t c.old) (beyond t c.new) r.0).1;
+      within_old = (either (beyond t c.old) (beyond t c.new) r.0).0;
       shape = r.1;
       fit = (both (cells_fit t c.old) (cells_fit t c.new) (holds (cells_fit t c.old && cells_fit t c.new) q.0)).1;
+      logged = (no_fault (wrong_supplement t c.op c.old c.new) faults.Supplement [] q.1).0;
     }
 
 pub insert_count : (t : TableRow) (c : Change) → c.op ≡ Insert → change_fault_in t c ≡ None → length c.new ≡ length t.columns

@@ -32,7 +32,7 @@ three true false c e = absurd (cc)
 three false b c e = absurd (cc)
 
 -- rising columns below a bound are no more than there is room for
-room : (from bound : ℕ) (cells : List (ℕ × Value)) → from ≤ bound → columns_rise from cells ≡ true → list_any (λ cell. nat_le bound cell.0) cells ≡ false → from + length cells ≤ bound
+pub room : (from bound : ℕ) (cells : List (ℕ × Value)) → from ≤ bound → columns_rise from cells ≡ true → list_any (λ cell. nat_le bound cell.0) cells ≡ false → from + length cells ≤ bound
 room from bound [] low r b = omega (arith, low)
 room from bound (cell ∷ cells) low r b =
     let p = three (nat_le from cell.0) (nat_lt cell.0 32) (columns_rise (cell.0 + 1) cells) r in

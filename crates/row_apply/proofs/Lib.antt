@@ -13,3 +13,4 @@ pub mod Joining
 pub mod Accepted
 pub mod Writing
 pub mod Whole
+pub mod Logged

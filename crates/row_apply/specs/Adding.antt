@@ -8,7 +8,7 @@ use Rattle.rl_value.specs.Order.{row_cmp}
 use Rattle.redo_vec.specs.declared.table.TableRow.{TableRow}
 use Rattle.redo_vec.specs.declared.change.Change.{Change}
 use Rattle.redo_spec.specs.ChangeForm.{change_fault_in}
-use Rattle.redo_spec.specs.Dictionary.{table_of}
+use Rattle.redo_spec.specs.Dictionary.{table_of, has_bad_keys}
 use Rattle.redo_spec.specs.Tables.{Rows, Table, Tables, values_at, primary_key, definitions_of}
 use Rattle.row_apply.specs.declared.written.Written.{Written}
 use Rattle.row_apply.specs.Overlaid.{write_row}
@@ -87,10 +87,11 @@ pub record IsReady (tables : Tables) (w : Written) (t : TableRow) : Type 0 where
   pub kept : IsKept w
   pub indexed : indexed_at (indexed_of w) t.id ≡ Some t.keys
 
--- the table is there and accepts the change, its rows are sound, and what was written is kept right
+-- the table is there, has no bad keys and accepts the change, its rows are sound, and what was written is kept right
 pub record CanChange (tables : Tables) (w : Written) (t : TableRow) (c : Change) : Type 0 where
   pub there : table_of (definitions_of tables) t.id ≡ Some t
   pub base_sound : AreSound tables
   pub sound : AreSoundRows t (rows_seen tables (slots_of w) t)
   pub kept : IsKept w
   pub accepted : change_fault_in t c ≡ None
+  pub keys : has_bad_keys t ≡ false

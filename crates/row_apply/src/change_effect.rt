@@ -3,8 +3,9 @@
 //! What stands in the way is told in this order: a row that is not there, or not as it was logged; then a row with the
 //! new primary key; then a row with a unique value. The row that an update takes away is never in its own way.
 
-ghost use Rattle.std.specs.Prelude.{◌≡◌, ◌<◌, Ok, Err, None, Some, Result, OnOk, OnErr, IfOk, IsTrue, length, is_some, true};
-ghost use Rattle.redo_spec.specs.ChangeForm.{change_fault, is_row_of};
+ghost use Rattle.std.specs.Prelude.{◌≡◌, ◌≢◌, ◌<◌, false, Ok, Err, None, Some, Result, OnOk, OnErr, IfOk, IsTrue, length, is_some, true};
+ghost use Rattle.redo_spec.specs.ChangeForm.{change_fault, change_fault_in, is_row_of};
+ghost use Rattle.redo_spec.specs.Dictionary.{has_bad_keys};
 ghost use Rattle.redo_spec.specs.Effect.{effect as effect_of, effect_on, take_row, difference, logged_key, with_cells, cell_values};
 ghost use Rattle.redo_spec.specs.Tables.{definitions_of};
 ghost use Rattle.redo_vec.specs.declared.change.Op.TheVariants.{Insert, Update, Delete};
@@ -50,9 +51,12 @@ fn insert<R: Rows>(
 
 // The key of the row that the change logged.
 fn key_logged(over: &Written, table: &TableRow, change: &Change) -> Result<Key, NoMemory>
+    requires keys { has_bad_keys table.now ≡ false }
+    requires accepted { change_fault_in table.now change.now ≡ None }
+    requires op { change.now.op ≢ Insert }
     ensures { IfOk result (λ key. key ≡ row_key table.now.id (logged_key table.now change.now.old)) }
 {
-    let values = logged_key(over.alloc, table, &change.old)?;
+    let values = logged_key(over.alloc, table, change)?;
     Ok(Key {
         table: table.id,
         index: 0,
@@ -67,6 +71,7 @@ fn update<R: Rows>(
     change: &Change,
 ) -> Result<(), EffectFault>
     requires can { CanChange (R.tables base.now) over.old table.now change.now }
+    requires op { change.now.op ≢ Insert }
     ensures done { OnOk result (effect_on (table_seen (R.tables base.now) (slots_of over.old) table.now) Update change.now.old change.now.new ≡ Ok (table_seen (R.tables base.now) (slots_of over.new) table.now)) }
     ensures miss { OnMiss result (λ miss. effect_on (table_seen (R.tables base.now) (slots_of over.old) table.now) Update change.now.old change.now.new ≡ Err miss) }
     ensures unchanged { OnErr result (slots_of over.new ≡ slots_of over.old) }
@@ -94,6 +99,7 @@ fn delete<R: Rows>(
     change: &Change,
 ) -> Result<(), EffectFault>
     requires can { CanChange (R.tables base.now) over.old table.now change.now }
+    requires op { change.now.op ≢ Insert }
     ensures done { OnOk result (effect_on (table_seen (R.tables base.now) (slots_of over.old) table.now) Delete change.now.old change.now.new ≡ Ok (table_seen (R.tables base.now) (slots_of over.new) table.now)) }
     ensures miss { OnMiss result (λ miss. effect_on (table_seen (R.tables base.now) (slots_of over.old) table.now) Delete change.now.old change.now.new ≡ Err miss) }
     ensures unchanged { OnErr result (slots_of over.new ≡ slots_of over.old) }

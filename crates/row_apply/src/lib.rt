@@ -13,6 +13,8 @@ mod overlay;
 mod rivals;
 mod rows;
 mod seen;
+#[cfg(test)]
+mod tests;
 mod writes;
 mod written;
 

@@ -1,19 +1,22 @@
 //! Rows and keys as the cells of a change give them.
 
-ghost use Rattle.std.specs.Prelude.{◌≡◌, ◌<◌, ◌≤◌, ◌+◌, length, IfOk, OnOk, IsTrue, map, unwrap_or, Some, None, Option, false, true};
+ghost use Rattle.std.specs.Prelude.{◌≡◌, ◌≢◌, ◌<◌, ◌≤◌, ◌+◌, length, IfOk, OnOk, IsTrue, map, unwrap_or, Some, None, Option, false, true};
 ghost use Rattle.std.specs.List.{filter_map};
 ghost use Rattle.std.specs.Option.{option_copied};
 ghost use Rattle.redo_spec.specs.ConflictKeys.{cell_at};
-ghost use Rattle.redo_spec.specs.Dictionary.{column_numbers, numbers_from, primary_of};
+ghost use Rattle.redo_spec.specs.Dictionary.{column_numbers, numbers_from, primary_of, has_bad_keys};
+ghost use Rattle.redo_spec.specs.ChangeForm.{change_fault_in};
 ghost use Rattle.redo_spec.specs.Effect.{cell_values, with_cells, logged_key, difference};
 ghost use Rattle.redo_spec.specs.Tables.{value_in};
 ghost use Rattle.rl_value.specs.declared.miss.Miss.TheVariants.{Differs};
+ghost use Rattle.redo_vec.specs.Forms.{is_key_columns};
+ghost use Rattle.redo_vec.specs.declared.change.Op.TheVariants.{Insert};
 ghost use Rattle.rl_value.specs.Text.{IsRow};
 ghost use Rattle.row_apply.specs.Outcomes.{OfMiss, OnMiss};
 
 use crate::fault::EffectFault;
 use crate::key_values::{holds, value_in};
-use redo_vec::TableRow;
+use redo_vec::{Change, TableRow};
 use rl_value::{Cells, Miss, NoMemory, Row, Value};
 use std::alloc::Global;
 
@@ -127,7 +130,8 @@ fn logged_values(
 }
 
 fn primary_columns(table: &TableRow) -> &[u8]
-    ensures { result.now ≡ primary_of table.now }
+    ensures form { IsTrue (is_key_columns (primary_of table.now)) }
+    ensures same { result.now ≡ primary_of table.now }
 {
     match table.keys.items() {
         [] => &[],
@@ -135,14 +139,15 @@ fn primary_columns(table: &TableRow) -> &[u8]
     }
 }
 
-/// The key that the old cells name.
-pub fn logged_key(alloc: Global, table: &TableRow, cells: &Cells) -> Result<Row, NoMemory>
-    ensures { IfOk result (λ key. key ≡ logged_key table.now cells.now) }
+/// The key of the row that an accepted UPDATE or DELETE was made on, by its old cells.
+#[tactic(auto, using(crate::proofs::Logged::logged_is_row))]
+pub fn logged_key(alloc: Global, table: &TableRow, change: &Change) -> Result<Row, NoMemory>
+    requires keys { has_bad_keys table.now ≡ false }
+    requires accepted { change_fault_in table.now change.now ≡ None }
+    requires op { change.now.op ≢ Insert }
+    ensures { IfOk result (λ key. key ≡ logged_key table.now change.now.old) }
 {
-    let values = logged_values(alloc, primary_columns(table), cells.cells())?;
-    if values.is_empty() || values.len() > 32 {
-        return Err(NoMemory);
-    }
+    let values = logged_values(alloc, primary_columns(table), change.old.cells())?;
     Ok(Row::of(values))
 }
 

@@ -12,7 +12,7 @@ use Rattle.row_apply.proofs.change_effect.effect.Goals as goal
 pub change_rows-requires : goal.change_rows-requires
 change_rows-requires g c = record {
   can = can_change (g.R.Rows.tables c.args.base.now) c.args.dict.now.tables c.in-Some.table.now c.args.change.now c.requires.definitions c.in-Some.ensures.found c.over.inside.written c.requires.accepted c.requires.base_sound
-      (subst (λ (ws : List Write). AreSound (overlaid (g.R.Rows.tables c.args.base.now) ws)) (sym c.over.view_is) c.requires.sound) c.over.invariant;
+      (subst (λ (ws : List Write). AreSound (overlaid (g.R.Rows.tables c.args.base.now) ws)) (sym c.over.view_is) c.requires.sound) c.over.invariant c.in-Some.ensures.keys;
 }
 
 pub returns-clause-done : goal.returns-clause-done

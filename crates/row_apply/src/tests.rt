@@ -1,0 +1,263 @@
+//! What no clause says: that changes are made with ample memory, here of a table without rows beneath.
+
+ghost use Rattle.std.specs.Prelude.{◌≡◌, ◌<◌, ◌∷◌, [], IfOk, IsTrue, OnOk};
+ghost use Rattle.redo_vec.specs.Forms.{is_line30};
+ghost use Rattle.redo_spec.specs.Tables.{empty_tables};
+ghost use Rattle.row_apply.specs.Overlaid.{overlaid};
+ghost use Rattle.row_apply.specs.Soundness.{AreSound};
+
+use crate::change_effect::effect;
+use crate::fault::EffectFault;
+use crate::laws::{no_writes_change_nothing, tables_without_rows_are_sound};
+use crate::overlay::Overlay;
+use crate::rows::Rows;
+use redo_dict::Dict;
+use redo_vec::{Change, Column, Columns, KeyColumns, KeyLists, Kind, Line30, Op, TableRow};
+use rl_value::{Cells, Key, Miss, Row, Value, Xid};
+use std::alloc::Global;
+use std::test::Fail;
+
+// A table without rows.
+#[derive(Drop)]
+struct Bare {
+    table: TableRow,
+}
+
+impl Rows for Bare {
+    ghost tables = { λ b. empty_tables (b.table ∷ []) };
+
+    #[tactic(auto, using(crate::proofs::Sound::nothing_found))]
+    fn get(&self, _key: &Key) -> Option<&Row> {
+        None
+    }
+
+    #[tactic(auto, using(crate::proofs::Sound::nobody_owns))]
+    fn owner(&self, _key: &Key) -> Option<&Row> {
+        None
+    }
+}
+
+/// A change of a case, by the ID and the CODE of its row before and after; no CODE is Null.
+#[derive(Clone, Copy)]
+enum Step {
+    Insert(i64, Option<i64>),
+    Update((i64, i64), (i64, i64)),
+    Delete(i64, i64),
+}
+
+/// What a change came to.
+#[derive(Clone, Copy, Debug, PartialEq, Eq)]
+enum Told {
+    Done,
+    Absent,
+    Differs(u8),
+    Exists,
+    Taken(u8),
+    Memory,
+    // The dictionary does not accept the change.
+    Refused,
+}
+
+fn told_of(answer: Result<(), EffectFault>) -> Told {
+    match answer {
+        Ok(()) => Told::Done,
+        Err(EffectFault::Memory) => Told::Memory,
+        Err(EffectFault::Miss(miss)) => match miss {
+            Miss::Absent(_) => Told::Absent,
+            Miss::Differs { column, .. } => Told::Differs(column),
+            Miss::Exists(_) => Told::Exists,
+            Miss::Taken { index, .. } => Told::Taken(index),
+        },
+    }
+}
+
+// A table without rows, its dictionary, and an overlay over it.
+#[derive(Drop)]
+struct World {
+    dict: Dict,
+    base: Bare,
+    over: Overlay,
+    ghost defined: { dict.tables ≡ base.table ∷ [] },
+    ghost sound: { AreSound (overlaid (empty_tables (base.table ∷ [])) over) },
+}
+
+impl World {
+    fn new(alloc: Global) -> Result<Option<World>, Fail> {
+        let table = table(alloc)?;
+        let mut dict = Dict::new(alloc);
+        let added = dict.add(table.copy()?).is_ok();
+        if !added {
+            return Ok(None);
+        }
+        tables_without_rows_are_sound();
+        no_writes_change_nothing();
+        Ok(Some(World {
+            dict,
+            base: Bare { table },
+            over: Overlay::new(alloc),
+        }))
+    }
+
+    fn apply(&mut self, change: &Change) -> Told {
+        if self.dict.check_change(change).is_err() {
+            return Told::Refused;
+        }
+        tables_without_rows_are_sound();
+        told_of(effect(&self.base, &self.dict, &mut self.over, change))
+    }
+}
+
+fn word(alloc: Global, bytes: &[u8]) -> Result<Line30, Fail>
+    requires { IsTrue (is_line30 bytes.now) }
+{
+    Ok(Line30::of(Vec::from_slice(alloc, bytes)?))
+}
+
+// T.A: ID is the primary key, and CODE, which may be Null, a unique one.
+fn table(alloc: Global) -> Result<TableRow, Fail> {
+    let id = Column {
+        name: word(alloc, b"ID")?,
+        kind: Kind::Number,
+        nullable: false,
+    };
+    let code = Column {
+        name: word(alloc, b"CODE")?,
+        kind: Kind::Number,
+        nullable: true,
+    };
+    let primary = KeyColumns::of(vec![in alloc; 0]?);
+    let unique = KeyColumns::of(vec![in alloc; 1]?);
+    Ok(TableRow {
+        id: 1,
+        schema: word(alloc, b"T")?,
+        name: word(alloc, b"A")?,
+        columns: Columns::of(vec![in alloc; id, code]?),
+        keys: KeyLists::of(vec![in alloc; primary, unique]?),
+    })
+}
+
+fn code_of(code: Option<i64>) -> Value {
+    match code {
+        None => Value::Null,
+        Some(code) => Value::Number(code),
+    }
+}
+
+fn cells(alloc: Global, id: i64, code: Option<i64>) -> Result<Cells, Fail> {
+    Ok(Cells::of(vec![in alloc; (0, Value::Number(id)), (1, code_of(code))]?))
+}
+
+fn none(alloc: Global) -> Cells {
+    Cells::of(Vec::new(alloc))
+}
+
+fn change(op: Op, old: Cells, new: Cells) -> Change {
+    Change {
+        xid: Xid {
+            usn: 1,
+            slot: 2,
+            sqn: 3,
+        },
+        op,
+        table: 1,
+        old,
+        new,
+    }
+}
+
+fn update(alloc: Global, old: (i64, i64), new: (i64, i64)) -> Result<Change, Fail> {
+    let before = cells(alloc, old.0, Some(old.1))?;
+    let after = cells(alloc, new.0, Some(new.1))?;
+    Ok(change(Op::Update, before, after))
+}
+
+fn change_of(alloc: Global, step: Step) -> Result<Change, Fail> {
+    match step {
+        Step::Insert(id, code) => Ok(change(Op::Insert, none(alloc), cells(alloc, id, code)?)),
+        Step::Update(old, new) => update(alloc, old, new),
+        Step::Delete(id, code) => Ok(change(
+            Op::Delete,
+            cells(alloc, id, Some(code))?,
+            none(alloc),
+        )),
+    }
+}
+
+// What the first of these steps came to that was not done.
+fn outcome(world: &mut World, alloc: Global, steps: &[Step]) -> Result<Told, Fail> {
+    for step in steps {
+        let change = change_of(alloc, *step)?;
+        let told = world.apply(&change);
+        if told != Told::Done {
+            return Ok(told);
+        }
+    }
+    Ok(Told::Done)
+}
+
+fn verdict(alloc: Global, steps: &[Step]) -> Result<Told, Fail> {
+    match World::new(alloc)? {
+        None => Ok(Told::Refused),
+        Some(mut world) => outcome(&mut world, alloc, steps),
+    }
+}
+
+#[test]
+fn a_change_finds_its_rows(rt: HostRuntime) -> Result<(), Fail> {
+    use Step::{Delete, Insert, Update};
+    use Told::{Absent, Differs, Done, Exists, Taken};
+    let cases: [(&'static [Step], Told); 9] = [
+        // Its key is there, and its CODE too: the key is told.
+        (&[Insert(1, Some(7)), Insert(1, Some(7))], Exists),
+        (&[Insert(1, Some(7)), Insert(2, Some(7))], Taken(1)),
+        (&[Insert(1, Some(7)), Delete(2, 7)], Absent),
+        (&[Insert(1, Some(7)), Delete(1, 8)], Differs(1)),
+        // A row that moves stands under its new key alone.
+        (
+            &[Insert(1, Some(7)), Update((1, 7), (2, 7)), Delete(1, 7)],
+            Absent,
+        ),
+        (
+            &[Insert(1, Some(7)), Update((1, 7), (2, 7)), Delete(2, 7)],
+            Done,
+        ),
+        // A unique value is free once its row is gone, and Null is nobody's.
+        (
+            &[Insert(1, Some(7)), Delete(1, 7), Insert(2, Some(7))],
+            Done,
+        ),
+        (
+            &[
+                Insert(1, Some(7)),
+                Update((1, 7), (1, 8)),
+                Insert(2, Some(7)),
+            ],
+            Done,
+        ),
+        (&[Insert(1, None), Insert(2, None)], Done),
+    ];
+    for (steps, want) in cases {
+        assert_eq!(rt; verdict(rt.alloc(), steps)?, want);
+    }
+    Ok(())
+}
+
+// How many rows these steps have written, in a copy of what they wrote; None where one was not done.
+fn written(alloc: Global, steps: &[Step]) -> Result<Option<usize>, Fail> {
+    let Some(mut world) = World::new(alloc)? else {
+        return Ok(None);
+    };
+    if outcome(&mut world, alloc, steps)? != Told::Done {
+        return Ok(None);
+    }
+    let copy = world.over.snapshot()?;
+    let writes = copy.into_writes()?;
+    Ok(Some(writes.items().len()))
+}
+
+#[test]
+fn a_moved_row_is_two_writes(rt: HostRuntime) -> Result<(), Fail> {
+    let steps = [Step::Insert(1, Some(7)), Step::Update((1, 7), (2, 7))];
+    assert_eq!(rt; written(rt.alloc(), &steps)?, Some(2));
+    Ok(())
+}
