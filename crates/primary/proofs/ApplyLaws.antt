@@ -1,19 +1,17 @@
 -- The next commit applied, as the steps of a progress say it.
-use Rattle.std.proofs.Common.{◌≡◌, ℕ, ◌+◌, ◌≤◌, nat_lt, List, [], arith, refl, sym, ap, ◌∙◌, subst, Bool, true, false, cond, not, Option, Some, None, Result, Ok, Err, if◌then◌else◌}
+use Rattle.std.proofs.Common.{◌≡◌, ℕ, ◌+◌, ◌≤◌, nat_lt, List, [], arith, refl, sym, ap, ◌∙◌, subst, Bool, true, false, cond, not, Some, None, Result, Ok, Err}
 use Rattle.std.proofs.lemmas.Bool.Decides.{nat_tests}
 use Rattle.rl_value.specs.declared.pos.Pos.{Pos}
 use Rattle.rl_value.specs.declared.miss.Miss.{Miss}
-use Rattle.rl_value.specs.declared.verdict.Verdict.{Verdict}
 use Rattle.rl_value.specs.declared.verdict.Verdict.TheVariants.{Mismatch, RowLimit}
-use Rattle.rl_value.specs.Outcome.{map_ok}
 use Rattle.redo_vec.specs.declared.table.TableRow.{TableRow}
 use Rattle.redo_spec.specs.Tables.{RowsById, Tables, assembled, definitions_of, row_count}
 use Rattle.redo_spec.specs.History.{Placed}
 use Rattle.redo_spec.specs.Skips.{Skip}
-use Rattle.redo_spec.specs.Fold.{Missed, effects, stop_of, live_row_limit}
+use Rattle.redo_spec.specs.Fold.{Missed, effects, live_row_limit}
 use Rattle.row_apply.specs.declared.writes.Write.{Write}
 use Rattle.row_apply.specs.Overlaid.{overlaid}
-use Rattle.primary.specs.Progress.{Ahead, Progress, Going, Ended, held_at, kept_of, tables_or, ended_or, applied, committed}
+use Rattle.primary.specs.Progress.{Ahead, Going, Ended, held_at, kept_of, ended_or, applied, committed}
 use Rattle.primary.specs.Starts.{tables_shown}
 use Rattle.primary.specs.Running.{TellsMiss}
 use Rattle.primary.specs.declared.effects.EffectsFault.{EffectsFault}

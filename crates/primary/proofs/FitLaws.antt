@@ -1,7 +1,7 @@
 -- The surviving changes beside the standing: an admitted vector leaves both with the same open transactions, and with
 -- changes that the dictionary accepts.
-use Rattle.std.proofs.Common.{◌≡◌, ℕ, ◌==◌, nat_le, List, [], ◌∷◌, ◌++◌, map, filter, take, length, ◌-◌, zero, suc, refl, sym, ap, ◌∙◌, subst, Bool, true, false, cond, not, ◌&&◌, ◌||◌, Option, Some, None, is_some, arith}
-use Rattle.std.specs.List.{list_any, AllByRecursion}
+use Rattle.std.proofs.Common.{◌≡◌, ℕ, ◌==◌, nat_le, List, [], ◌∷◌, ◌++◌, take, length, ◌-◌, zero, suc, refl, sym, ap, ◌∙◌, subst, Bool, true, false, cond, not, ◌&&◌, ◌||◌, Option, Some, None, is_some, arith}
+use Rattle.std.specs.List.{list_any}
 use Rattle.std.specs.Option.{option_map, option_or}
 use Rattle.std.proofs.lemmas.Bool.Decides.{nat_tests}
 use Rattle.std.proofs.lemmas.List.Folds.{list_any-append}
@@ -19,9 +19,9 @@ use Rattle.redo_spec.specs.Survivors.{after_change, after_undo}
 use Rattle.redo_spec.specs.History.{Placed, same_xid}
 use Rattle.redo_spec.specs.Standing.{Standing, OpenTxn, is_open, with_open, closed as closed_txns, standing_after}
 use Rattle.redo_spec.specs.Law.{dictionary_fault, own_fault, vector_fault, is_passed_over, open_fault, made_fault, unless}
-use Rattle.primary.specs.Progress.{OpenChanges, changes_of, opened, closed, rechanged, live_after, commit_of}
+use Rattle.primary.specs.Progress.{OpenChanges, changes_of, rechanged, live_after}
 use Rattle.primary.specs.Running.{AreAccepted, Opens, Fits}
-use Rattle.primary.proofs.LiveLaws.{same_are, same_self, opened_changes, closed_changes, rechanged_changes, ids_rise, opened_rises, closed_rises, rechanged_rises}
+use Rattle.primary.proofs.LiveLaws.{same_are, opened_changes, closed_changes, rechanged_changes, opened_rises, closed_rises, rechanged_rises}
 
 -- ---- tests
 

@@ -1,10 +1,9 @@
 -- The steps of a progress are the fold: after any records it stands where `folded` of their commits stands.
-use Rattle.std.proofs.Common.{◌≡◌, ℕ, zero, suc, ◌+◌, ◌-◌, ◌≤◌, ◌<◌, ◌==◌, nat_lt, List, [], ◌∷◌, ◌++◌, map, drop, take, length, slice_get, refl, sym, ap, ◌∙◌, subst, Bool, true, false, cond, if◌then◌else◌, Option, Some, None, Result, Ok, Err, unwrap_or, arith}
+use Rattle.std.proofs.Common.{◌≡◌, ℕ, zero, suc, ◌+◌, ◌-◌, ◌≤◌, ◌<◌, ◌==◌, nat_lt, List, [], ◌∷◌, ◌++◌, drop, take, length, slice_get, refl, sym, ap, ◌∙◌, subst, true, false, cond, Option, Some, None, unwrap_or, arith}
 use Rattle.std.proofs.lemmas.Bool.Decides.{nat_tests}
 use Rattle.std.specs.Option.{option_map_or}
 use Rattle.std.proofs.lemmas.List.{length-append}
 use Rattle.redo_law.specs.Calls.{standing_of}
-use Rattle.rl_value.specs.declared.xid.Xid.{Xid}
 use Rattle.rl_value.specs.declared.pos.Pos.{Pos}
 use Rattle.rl_value.specs.declared.cause.LawFault.{LawFault}
 use Rattle.rl_value.specs.declared.cause.Cause.TheVariants as causes
@@ -12,24 +11,23 @@ use Rattle.rl_value.specs.declared.verdict.Stop.{Stop}
 use Rattle.rl_value.specs.declared.verdict.Stop.TheVariants.{Malformed}
 use Rattle.rl_value.specs.declared.verdict.Verdict.{Verdict}
 use Rattle.rl_value.specs.declared.verdict.Verdict.TheVariants.{Stopped}
-use Rattle.redo_vec.specs.declared.redo_rec.RedoRec.{RedoRec}
 use Rattle.redo_vec.specs.declared.vector.Vector.{Vector}
 use Rattle.redo_vec.specs.declared.vector.Vector.TheVariants.{Start, Change as OfChange, Undo, Commit, Rollback, Table, DictEnd}
 use Rattle.redo_spec.specs.declared.header.Header.{Header}
 use Rattle.redo_spec.specs.Tables.{Tables, definitions_of}
-use Rattle.redo_spec.specs.History.{Entry, Placed, Txn, Committed, Commits, History, commits_after, commit_count, no_history, ended_by, committed_at, after_vector as history_vector, after_vectors as history_vectors, history_after}
+use Rattle.redo_spec.specs.History.{Entry, Placed, Txn, Committed, Commits, History, commits_after, commit_count, no_history, committed_at, after_vector as history_vector, after_vectors as history_vectors, history_after}
 use Rattle.redo_spec.specs.Standing.{Standing, standing_after, standing_after_all, entered as entered_standing, record_after}
-use Rattle.redo_spec.specs.Law.{Admitted, dictionary_fault, vector_fault, vectors_fault, whole_fault, record_fault, admitted_or, admission}
+use Rattle.redo_spec.specs.Law.{dictionary_fault, vector_fault, vectors_fault, whole_fault, record_fault, admitted_or, admission}
 use Rattle.redo_spec.specs.Skips.{Skip}
-use Rattle.redo_spec.specs.Fold.{Base, Folded, effects, commit_effect, commit_effects, known_tables, folded, redo_end}
+use Rattle.redo_spec.specs.Fold.{Folded, effects, commit_effect, commit_effects, known_tables, folded}
 use Rattle.primary.specs.declared.plain.Plain.{Plain}
-use Rattle.primary.specs.Progress.{OpenChanges, changes_of, Ahead, Progress, Going, Ended, kept_of, tables_or, ended_or, applied, committed, live_after, commit_of, with_commit, after_vector, after_vectors, tables_then, entered, judged, after_record, after_records, held_at, end_of}
+use Rattle.primary.specs.Progress.{OpenChanges, changes_of, Ahead, Progress, Going, Ended, kept_of, tables_or, ended_or, applied, committed, live_after, after_vector, after_vectors, tables_then, entered, judged, after_record, after_records, held_at, end_of}
 use Rattle.primary.specs.Starts.{tables_shown, base_of, fold_admitted, fold_from, IsStart, begun, after}
 use Rattle.primary.proofs.WalkLaws.{Walked, came, halted, walk, walk_from, walk-snoc, walk_stays, walked_or, seen, walk_is_fold}
 use Rattle.primary.proofs.FitLaws.{none_first, none_second, no_fault, is_whole, both, opens_after}
 use Rattle.primary.specs.Running.{Opens}
 use Rattle.primary.proofs.LiveLaws.{nothing_rises}
-use Rattle.primary.proofs.HistoryFit.{Lives, lives_after, Ends, commit_ends}
+use Rattle.primary.proofs.HistoryFit.{Lives, lives_after, commit_ends}
 use Rattle.primary.proofs.DictionaryLaws.{record_keeps}
 
 -- ---- lists

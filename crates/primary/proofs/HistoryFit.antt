@@ -1,6 +1,6 @@
 -- The surviving changes beside the history: each open transaction has there the survivors that the map has, and there is
 -- one at most of an id.
-use Rattle.std.proofs.Common.{◌≡◌, ℕ, List, [], ◌∷◌, ◌++◌, map, filter, refl, sym, ap, ◌∙◌, subst, Bool, true, false, cond, not, ◌&&◌, ◌||◌, Option, Some, None, is_some, unwrap_or}
+use Rattle.std.proofs.Common.{◌≡◌, ℕ, List, [], ◌∷◌, ◌++◌, map, filter, refl, sym, ap, ◌∙◌, Bool, true, false, cond, not, ◌||◌, Option, Some, None, is_some, unwrap_or}
 use Rattle.std.specs.List.{list_any}
 use Rattle.std.specs.Option.{option_map, option_to_list}
 use Rattle.std.proofs.lemmas.List.{map-append, append-nil}
@@ -12,9 +12,9 @@ use Rattle.redo_vec.specs.declared.vector.Vector.{Vector}
 use Rattle.redo_vec.specs.declared.vector.Vector.TheVariants.{Start, Change as OfChange, Undo, Commit, Rollback, Table, DictEnd}
 use Rattle.redo_spec.specs.declared.header.Header.{Header}
 use Rattle.redo_spec.specs.Survivors.{after_change, after_undo}
-use Rattle.redo_spec.specs.History.{Placed, Txn, History, same_xid, of_xid, but_xid, has_xid, with_xid, changed, undone, known_by_commit, ended_by, started, after_vector}
+use Rattle.redo_spec.specs.History.{Placed, Txn, History, same_xid, of_xid, but_xid, with_xid, changed, undone, known_by_commit, ended_by, started, after_vector}
 use Rattle.redo_spec.specs.Standing.{Standing, is_open}
-use Rattle.redo_spec.specs.Law.{dictionary_fault, own_fault, vector_fault}
+use Rattle.redo_spec.specs.Law.{dictionary_fault, vector_fault}
 use Rattle.primary.specs.Progress.{OpenChanges, changes_of, live_after}
 use Rattle.primary.proofs.LiveLaws.{same_are, opened_changes, closed_changes, rechanged_changes}
 use Rattle.primary.proofs.FitLaws.{none_second, no_fault, same_sym}

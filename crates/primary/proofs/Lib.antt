@@ -8,3 +8,5 @@ pub mod FoldsLaw
 pub mod TableLaws
 pub mod ApplyLaws
 pub mod StepLaws
+pub mod UniqueLaws
+pub mod WriteLaws

@@ -12,7 +12,7 @@ use Rattle.redo_vec.specs.declared.vector.Vector.{Vector}
 use Rattle.redo_vec.specs.declared.vector.Vector.TheVariants.{Start, Change as OfChange, Undo, Commit, Rollback, Table, DictEnd}
 use Rattle.redo_spec.specs.declared.header.Header.{Header}
 use Rattle.redo_spec.specs.Dictionary.{Dictionary}
-use Rattle.redo_spec.specs.Tables.{Tables, assembled, empty_tables, definitions_of}
+use Rattle.redo_spec.specs.Tables.{Tables, RowsById, assembled, empty_tables, definitions_of, row_count}
 use Rattle.redo_law.specs.Calls.{Judges, Leaves}
 use Rattle.redo_law.specs.declared.fault.AdmitFault.{AdmitFault}
 use Rattle.redo_law.specs.declared.fault.AdmitFault.TheVariants as admits
@@ -22,13 +22,16 @@ use Rattle.redo_spec.specs.Law.{dictionary_fault, vector_fault, vectors_fault, w
 use Rattle.redo_spec.specs.Skips.{Skip}
 use Rattle.redo_spec.specs.Fold.{known_tables, effects}
 use Rattle.row_apply.specs.Soundness.{AreSound}
-use Rattle.primary.specs.Progress.{OpenChanges, changes_of, Ahead, Progress, Going, Ended, held_at, live_after, commit_of, with_commit, committed, applied, ended_or, tables_or, kept_of, recs_of, vector_taken, after_vector, after_vectors, tables_then, entered, judged, after_record}
-use Rattle.primary.specs.Starts.{tables_shown}
-use Rattle.primary.specs.Running.{AreAccepted, Opens, Fits, IsRunning, MayCommit, ahead_of, tables_of, progress_of}
+use Rattle.primary.specs.Progress.{OpenChanges, changes_of, Ahead, Progress, Going, Ended, held_at, live_after, commit_of, with_commit, applied, ended_or, tables_or, kept_of, recs_of, vector_taken, after_vectors, tables_then, entered, judged, after_record}
+use Rattle.primary.specs.declared.plain.Plain.{Plain}
+use Rattle.primary.specs.Starts.{tables_shown, IsStart}
+use Rattle.primary.specs.Running.{AreAccepted, Fits, AreKept, IsKept, IsRunning, MayCommit, ahead_of, tables_of, progress_of}
 use Rattle.primary.specs.declared.running.Running.{Running}
 use Rattle.primary.proofs.FitLaws.{none_first, none_second, no_fault, is_whole, fits_after}
-use Rattle.primary.proofs.DictionaryLaws.{dictionary_kept, dictionary_same, record_keeps, left_same}
+use Rattle.primary.proofs.DictionaryLaws.{dictionary_kept, record_keeps, left_same}
+use Rattle.primary.specs.declared.unique_index.UniqueIndex.{UniqueIndex}
 use Rattle.primary.proofs.FoldsLaw.{ended_vectors}
+use Rattle.primary.proofs.TableLaws.{rows_counted}
 use Rattle.primary.proofs.WalkLaws.{halted}
 
 pub record Steps (skips : List Skip) (h : Header) (r : RedoRec) (old now : Running) (vec : ℕ) (rest : List Vector) : Type 0 where
@@ -39,6 +42,7 @@ pub record Steps (skips : List Skip) (h : Header) (r : RedoRec) (old now : Runni
   pub rec : now.rec ≡ now.law.rec
   pub whole : now.whole ≡ now.law.dictionary.finished
   pub sound : AreSound (tables_of now)
+  pub kept : IsKept now
   pub none : now.whole ≡ false → now.tables ≡ []
   pub small : vec + length rest ≤ 256
   pub goes : after_vectors skips r.scn now.rec vec rest (Going (ahead_of now)) ≡ after_record skips (h, r) (Going (ahead_of old))
@@ -62,6 +66,15 @@ sound_known s = by s.dictionary.finished
     by true = sound_empty s.dictionary.tables
     by false = tt
 
+pub sound_at_start : (start : Plain) → IsStart start → AreSound (assembled start.law.dict.tables start.tables)
+sound_at_start start is = by start.law.dict.finished refl
+  where
+    by : (b : Bool) → start.law.dict.finished ≡ b → AreSound (assembled start.law.dict.tables start.tables)
+    by true whole = is.sound whole
+    by false part =
+        let P : RowsById → Type 0 = λ rows. AreSound (assembled start.law.dict.tables rows) in
+        subst P (sym (is.none part)) (sound_empty start.law.dict.tables)
+
 -- as an admitted record begins, the rows show the tables that the progress has
 retabled : (b : Bool) (s : Standing) (h : Header) (r : RedoRec) (old now : Running) → old.whole ≡ b → IsRunning old → record_fault old.law (h, r) ≡ None → now.law ≡ record_after (h, r) old.law → now.tables ≡ old.tables →
     now.whole ≡ now.law.dictionary.finished → tables_of now ≡ tables_then b (tables_of old) (record_after (h, r) old.law)
@@ -77,13 +90,44 @@ sound_then : (b : Bool) (tables : Tables) (s : Standing) → AreSound tables →
 sound_then true tables s sound = sound
 sound_then false tables s sound = sound_known s
 
+no_rows : (ts : List TableRow) → row_count (assembled ts []) ≡ 0
+no_rows [] = refl
+no_rows (t ∷ ts) =
+    let first = rows_counted t ts [] in
+    let later = no_rows ts in
+    omega (arith, first, later)
+
+-- without rows there is nothing to lead to
+pub nothing_kept : (ts : List TableRow) (by : RowsById) (index : UniqueIndex) (count : ℕ) → by ≡ [] → count ≡ 0 → AreKept ts by index count
+nothing_kept ts by index count none zero =
+    let P : RowsById → Type 0 = λ rows. AreKept ts rows index count in
+    subst P (sym none) (record {
+      indexed = λ id t is key row q found has. absurd (cc);
+      counted = zero ∙ sym (no_rows ts);
+    })
+
+-- as an admitted record begins
+kept_then : (b : Bool) (h : Header) (r : RedoRec) (old now : Running) → old.whole ≡ b → IsRunning old → record_fault old.law (h, r) ≡ None → now.law ≡ record_after (h, r) old.law → now.tables ≡ old.tables →
+    now.index ≡ old.index → now.count ≡ old.count → IsKept now
+kept_then true h r old now is run fits law tables index count =
+    let same : now.law.dictionary ≡ old.law.dictionary = ap (λ t. t.dictionary) law ∙ record_keeps (h, r) old.law fits (sym run.whole ∙ is) in
+    let P : Dictionary → Type 0 = λ d. AreKept d.tables old.tables old.index old.count in
+    let Q : RowsById → Type 0 = λ rows. AreKept now.law.dictionary.tables rows old.index old.count in
+    let R : UniqueIndex → Type 0 = λ found. AreKept now.law.dictionary.tables now.tables found old.count in
+    let S : ℕ → Type 0 = λ rows. AreKept now.law.dictionary.tables now.tables now.index rows in
+    subst S (sym count) (subst R (sym index) (subst Q (sym tables) (subst P (sym same) run.kept)))
+kept_then false h r old now is run fits law tables index count =
+    let none : old.tables ≡ [] = run.none is in
+    nothing_kept now.law.dictionary.tables now.tables now.index now.count (tables ∙ none)
+    (count ∙ run.kept.counted ∙ ap (λ rows. row_count (assembled old.law.dictionary.tables rows)) none ∙ no_rows old.law.dictionary.tables)
+
 pub rec_all : (vec : ℕ) (vs : List Vector) (s : Standing) → (standing_after_all vec vs s).rec ≡ s.rec
 rec_all vec [] s = refl
 rec_all vec (v ∷ vs) s = rec_all (vec + 1) vs (standing_after vec v s)
 
 pub steps_begin : (skips : List Skip) (h : Header) (r : RedoRec) (old now : Running) → IsRunning old → record_fault old.law (h, r) ≡ None → now.law ≡ record_after (h, r) old.law → now.tables ≡ old.tables →
-    now.live ≡ old.live → now.made ≡ old.made → now.n ≡ old.n → now.scn ≡ old.scn → now.rec ≡ old.rec + 1 → now.whole ≡ now.law.dictionary.finished → length r.vectors ≤ 255 → Steps skips h r old now 1 r.vectors
-steps_begin skips h r old now run fits law tables live made n scn rec whole small =
+    now.live ≡ old.live → now.made ≡ old.made → now.n ≡ old.n → now.scn ≡ old.scn → now.rec ≡ old.rec + 1 → now.whole ≡ now.law.dictionary.finished → now.index ≡ old.index → now.count ≡ old.count → length r.vectors ≤ 255 → Steps skips h r old now 1 r.vectors
+steps_begin skips h r old now run fits law tables live made n scn rec whole index count small =
     let seen : tables_of now ≡ tables_then old.whole (tables_of old) (record_after (h, r) old.law) = retabled old.whole old.law h r old now refl run fits law tables whole in
     let shown : tables_of now ≡ tables_then old.law.dictionary.finished (tables_of old) (record_after (h, r) old.law) = seen ∙ ap (λ b. tables_then b (tables_of old) (record_after (h, r) old.law)) run.whole in
     let P : Tables → Type 0 = λ ts. AreSound ts in
@@ -97,6 +141,7 @@ steps_begin skips h r old now run fits law tables live made n scn rec whole smal
       rec = number ∙ sym (rec_after (h, r) old.law) ∙ ap (λ s. s.rec) (sym law);
       whole = whole;
       sound = subst P (sym seen) (sound_then old.whole (tables_of old) (record_after (h, r) old.law) run.sound);
+      kept = kept_then old.whole h r old now refl run fits law tables index count;
       none = λ part. tables ∙ run.none (was_part part);
       small = omega (arith, small);
       goes = (λ i. after_vectors skips r.scn (number i) 1 r.vectors (Going (record { standing = law i; live = live i; made = made i; n = n i; scn = scn i; tables = shown i })))
@@ -142,9 +187,9 @@ commit_may skips h r old now vec v rest ps s is =
 
 -- one vector more, without a commit or with one that was applied
 pub steps_more : (skips : List Skip) (h : Header) (r : RedoRec) (old now after : Running) (vec : ℕ) (v : Vector) (rest : List Vector) → Steps skips h r old now vec (v ∷ rest) →
-    after.law ≡ now.law → after.rec ≡ now.rec → after.whole ≡ now.whole → after.live ≡ live_after (record { rec = now.rec; vec = vec }) v now.live → AreSound (tables_of after) → (after.whole ≡ false → after.tables ≡ []) →
+    after.law ≡ now.law → after.rec ≡ now.rec → after.whole ≡ now.whole → after.live ≡ live_after (record { rec = now.rec; vec = vec }) v now.live → AreSound (tables_of after) → IsKept after → (after.whole ≡ false → after.tables ≡ []) →
     Going (ahead_of after) ≡ with_commit skips r.scn (commit_of v now.live) (record (ahead_of now) { live = live_after (record { rec = now.rec; vec = vec }) v now.live }) → Steps skips h r old after (vec + 1) rest
-steps_more skips h r old now after vec v rest s law rec whole live sound none goes =
+steps_more skips h r old now after vec v rest s law rec whole live sound kept none goes =
     let at : Pos = record { rec = now.rec; vec = vec } in
     let Q : OpenChanges → Type 0 = λ l. Fits (standing_after vec v s.at) l in
     let small = s.small in
@@ -156,6 +201,7 @@ steps_more skips h r old now after vec v rest s law rec whole live sound none go
       rec = rec ∙ s.rec ∙ ap (λ t. t.rec) (sym law);
       whole = whole ∙ s.whole ∙ ap (λ t. t.dictionary.finished) (sym law);
       sound = sound;
+      kept = kept;
       none = none;
       small = omega (arith, small);
       goes = (λ i. after_vectors skips r.scn (rec i) (vec + 1) rest (goes i)) ∙ s.goes;
@@ -171,7 +217,7 @@ steps_end skips h r old now after vec v rest end s is =
 pub steps_done : (skips : List Skip) (h : Header) (r : RedoRec) (old now : Running) (vec : ℕ) → Steps skips h r old now vec [] → IsRunning now
 steps_done skips h r old now vec s =
     let P : Standing → Type 0 = λ t. Fits t now.live in
-    record { fits = subst P s.last s.fits; whole = s.whole; rec = s.rec; sound = s.sound; none = s.none }
+    record { fits = subst P s.last s.fits; whole = s.whole; rec = s.rec; sound = s.sound; kept = s.kept; none = s.none }
 
 -- a bad record ends the fold, and leaves the tables as they are
 pub bad_ends : (skips : List Skip) (h : Header) (r : RedoRec) (old after : Running) (fault : LawFault) → IsRunning old → record_fault old.law (h, r) ≡ Some fault → after.law.dictionary ≡ dictionary_left old.law (h, r) →

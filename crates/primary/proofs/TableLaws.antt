@@ -1,9 +1,7 @@
 -- Tables that a dictionary makes of rows: what is found in them, and what writes make of them.
-use Rattle.std.proofs.Common.{◌≡◌, ℕ, zero, suc, ◌+◌, ◌<◌, ◌≤◌, nat_lt, nat_le, length, get_or, ◌==◌, List, [], ◌∷◌, ◌++◌, map, refl, sym, ap, ◌∙◌, subst, Bool, true, false, cond, not, Option, Some, None, is_some, slice_get, unwrap_or, arith, if◌then◌else◌}
+use Rattle.std.proofs.Common.{◌≡◌, ℕ, ◌+◌, length, ◌==◌, List, [], ◌∷◌, refl, sym, ap, ◌∙◌, Bool, true, false, cond, not, Option, Some, None, is_some, unwrap_or, arith}
 use Rattle.std.specs.FinMap.Entries as entries
-use Rattle.std.specs.declared.cmp.Ordering.TheVariants.{Less, Equal, Greater}
-use Rattle.std.specs.List.{find}
-use Rattle.std.specs.Option.{IsSome, IfSome}
+use Rattle.std.specs.Option.{IsSome}
 use Rattle.std.specs.Ordering.{nat_cmp, eq_by_cmp}
 use Rattle.std.specs.BTreeMap.{is_at, insert_entry}
 use Rattle.std.specs.Map.{lookup, set_value}
@@ -17,11 +15,10 @@ use Rattle.rl_value.specs.Order.{row_cmp}
 use Rattle.redo_vec.specs.declared.table.TableRow.{TableRow}
 use Rattle.redo_spec.specs.Dictionary.{table_of}
 use Rattle.redo_spec.specs.Tables.{Rows, RowsById, Table, Tables, rows_by, assembled, definitions_of, owner_in, row_count}
-use Rattle.redo_spec.specs.Fold.{live_row_limit}
 use Rattle.row_apply.specs.declared.writes.Write.{Write}
 use Rattle.row_apply.specs.Found.{rows_of, found_in, key_columns, owner_of}
 use Rattle.row_apply.specs.Overlaid.{write_row, rows_after, overlaid}
-use Rattle.primary.specs.ById.{table_in, with_row, put_beside, without_row, take_from, written_beside, written_all, count_with}
+use Rattle.primary.specs.ById.{table_in, with_row, put_beside, without_row, take_from, written_beside, written_all}
 use Rattle.primary.proofs.MapLemmas.{rows_by_is, find_is_lookup, put_is_insert}
 
 -- the tables are those of the dictionary
@@ -29,7 +26,7 @@ pub definitions_assembled : (ts : List TableRow) (by : RowsById) → definitions
 definitions_assembled [] by = refl
 definitions_assembled (t ∷ ts) by = ap (λ us. t ∷ us) (definitions_assembled ts by)
 
-equal_numbers : (a b : ℕ) → (a == b) ≡ true → a ≡ b
+pub equal_numbers : (a b : ℕ) → (a == b) ≡ true → a ≡ b
 equal_numbers a b e = grind (arith, nat_tests)
 
 found_case : (b : Bool) (t : TableRow) (o : Option TableRow) (rest : Rows) (by : RowsById) (id : ℕ) → (b ≡ true → t.id ≡ id) → is_some (cond b (Some t) o) ≡ true → (is_some o ≡ true → rest ≡ rows_by by id) →
@@ -165,66 +162,3 @@ overlaid_none (t ∷ ts) = ap (λ us. t ∷ us) (overlaid_none ts)
 -- the rows of the first table, and of the others
 pub rows_counted : (t : TableRow) (ts : List TableRow) (by : RowsById) → row_count (assembled (t ∷ ts) by) ≡ length (rows_by by t.id) + row_count (assembled ts by)
 rows_counted t ts by = sum_by-cons (λ (u : Table). length u.rows) (record { row = t; rows = rows_by by t.id }) (assembled ts by)
-
--- ---- how many rows there can be after writes
-
-put_longer : (key row : List Value) (rows : Rows) → length (entries.put row_cmp key row rows) ≤ length rows + 1
-put_longer key row [] = omega arith
-put_longer key row (r ∷ rows) =
-    let later = put_longer key row rows in
-    elim (row_cmp key r.0) as (λ o. length (entries.by_order o ((key, row) ∷ r ∷ rows) ((r.0, row) ∷ rows) (r ∷ entries.put row_cmp key row rows)) ≤ length (r ∷ rows) + 1) [
-      | Less ↦ omega arith
-      | Equal ↦ omega arith
-      | Greater ↦ omega (arith, later)
-    ]
-
-where_shorter : (p : List Value → Bool) (rows : Rows) → length (entries.where_key row_cmp p rows) ≤ length rows
-where_shorter p [] = omega arith
-where_shorter p (r ∷ rows) =
-    let later = where_shorter p rows in
-    elim (p r.0) as (λ b. length (cond b (r ∷ entries.where_key row_cmp p rows) (entries.where_key row_cmp p rows)) ≤ length (r ∷ rows)) [
-      | true ↦ omega (arith, later)
-      | false ↦ omega (arith, later)
-    ]
-
-write_longer : (rows : Rows) (key : List Value) (o : Option (List Value)) → length (write_row rows key o) ≤ length rows + 1
-write_longer rows key None = let shorter = where_shorter (λ k. not (eq_by_cmp row_cmp key k)) rows in omega (arith, shorter)
-write_longer rows key (Some row) = put_longer key row rows
-
-after_longer : (id : ℕ) (ws : List Write) (rows : Rows) → length (rows_after id ws rows) ≤ length rows + length ws
-after_longer id [] rows = omega arith
-after_longer id (w ∷ ws) rows =
-    let written = after_longer id ws (write_row rows w.key w.row) in
-    let left = after_longer id ws rows in
-    let one = write_longer rows w.key w.row in
-    elim (w.table == id) as (λ b. length (rows_after id ws (cond b (write_row rows w.key w.row) rows)) ≤ length rows + length (w ∷ ws)) [
-      | true ↦ omega (arith, written, one)
-      | false ↦ omega (arith, left)
-    ]
-
--- no table has more rows than before and one for each write
-pub overlaid_longer : (ts : List TableRow) (by : RowsById) (ws : List Write) → row_count (overlaid (assembled ts by) ws) ≤ count_with ts by (length ws)
-overlaid_longer [] by ws = omega arith
-overlaid_longer (t ∷ ts) by ws =
-    let one : row_count (overlaid (assembled (t ∷ ts) by) ws) ≡ length (rows_after t.id ws (rows_by by t.id)) + row_count (overlaid (assembled ts by) ws) =
-    sum_by-cons (λ (u : Table). length u.rows) (record { row = t; rows = rows_after t.id ws (rows_by by t.id) }) (overlaid (assembled ts by) ws) in
-    let first = after_longer t.id ws (rows_by by t.id) in
-    let later = overlaid_longer ts by ws in
-    omega (arith, one, first, later)
-
-few_enough : (ts : List TableRow) (by : RowsById) (ws : List Write) (limit : ℕ) → nat_le (count_with ts by (length ws)) limit ≡ true → nat_lt limit (row_count (overlaid (assembled ts by) ws)) ≡ false
-few_enough ts by ws limit fits = let most = overlaid_longer ts by ws in grind (arith, nat_tests, most, fits)
-
-pub surely_few : (ts : List TableRow) (by : RowsById) (ws : List Write) → nat_le (count_with ts by (length ws)) live_row_limit ≡ true → true ≡ not (nat_lt live_row_limit (row_count (overlaid (assembled ts by) ws)))
-surely_few ts by ws fits = sym (ap not (few_enough ts by ws live_row_limit fits))
-
--- ---- keys
-
-pub inside_key : (o : Option TableRow) (u : TableRow) (index : ℕ) → o ≡ Some u → IfSome o (λ t. index < length t.keys) → index < length u.keys
-inside_key o u index is inside = let P : Option TableRow → Type 0 = λ p. IfSome p (λ t. index < length t.keys) in subst P is inside
-
--- the item at an index that is inside
-pub keyed : (keys : List (List ℕ)) (index : ℕ) (columns : List ℕ) → index < length keys → columns ≡ get_or keys index columns → unwrap_or (slice_get keys index) [] ≡ columns
-keyed [] index columns inside is = absurd (omega (arith, inside))
-keyed (k ∷ ks) zero columns inside is = sym is
-keyed (k ∷ ks) (suc index) columns inside is = keyed ks index columns (omega (arith, inside)) is

@@ -1,18 +1,16 @@
 -- A fold as a walk over its commits: one after another, until one is not applied.
 -- `folded` asks at each count for the tables of that count from the base on; a walk carries them along.
-use Rattle.std.proofs.Common.{◌≡◌, ℕ, zero, suc, ◌+◌, ◌-◌, ◌≤◌, ◌<◌, ◌==◌, nat_lt, List, [], ◌∷◌, ◌++◌, map, drop, length, get_or, slice_get, refl, sym, ap, ◌∙◌, subst, Bool, true, false, cond, if◌then◌else◌, Option, Some, None, Result, Ok, Err, unwrap_or, arith}
-use Rattle.std.specs.List.{find}
+use Rattle.std.proofs.Common.{◌≡◌, ℕ, zero, suc, ◌+◌, ◌-◌, ◌≤◌, ◌<◌, ◌==◌, List, [], ◌∷◌, ◌++◌, drop, length, get_or, slice_get, refl, ap, ◌∙◌, true, false, cond, Option, Some, None, Result, Ok, Err, arith}
 use Rattle.std.specs.Option.{option_map_or}
 use Rattle.std.proofs.lemmas.Bool.Decides.{nat_tests}
-use Rattle.std.proofs.lemmas.List.{length-drop}
 use Rattle.rl_value.specs.declared.verdict.Stop.{Stop}
 use Rattle.rl_value.specs.declared.verdict.Verdict.{Verdict}
-use Rattle.rl_value.specs.declared.verdict.Verdict.TheVariants.{Stopped, Mismatch, RowLimit}
+use Rattle.rl_value.specs.declared.verdict.Verdict.TheVariants.{Stopped}
 use Rattle.rl_value.specs.Outcome.{◌>>=◌, map_ok}
-use Rattle.redo_spec.specs.Tables.{Table, Tables, row_count}
+use Rattle.redo_spec.specs.Tables.{Tables, row_count}
 use Rattle.redo_spec.specs.History.{Committed, Commits, commit_count}
 use Rattle.redo_spec.specs.Skips.{Skip, is_maintained}
-use Rattle.redo_spec.specs.Fold.{Base, Folded, Missed, Reached, commit_effect, tables_at, scn_at, stop_of, stop_at, live_row_limit, visible_table, visible_tables, reached, reached_or, verdict_of, tables_or_base, folded_to}
+use Rattle.redo_spec.specs.Fold.{Base, Folded, Missed, Reached, commit_effect, tables_at, scn_at, stop_of, stop_at, visible_tables, reached, reached_or, verdict_of, tables_or_base, folded_to}
 use Rattle.redo_spec.proofs.FoldLaws.{tables_at-next}
 use Rattle.primary.specs.Progress.{tables_or}
 

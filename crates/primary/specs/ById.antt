@@ -1,12 +1,11 @@
 -- Rows by table: one more row, and one row fewer.
-use Rattle.std.specs.Prelude.{ℕ, ◌+◌, List, [], ◌∷◌, length, not, Option, Some, None}
+use Rattle.std.specs.Prelude.{ℕ, ◌+◌, List, [], ◌∷◌, Bool, cond, ◌&&◌, not, Option, Some, None, is_some}
 use Rattle.std.specs.BTreeMap.{insert_entry, is_at}
 use Rattle.std.specs.FinMap.Entries as entries
 use Rattle.std.specs.Map.{lookup, set_value}
 use Rattle.std.specs.Ordering.{nat_cmp, eq_by_cmp}
 use Rattle.rl_value.specs.declared.value.Value.{Value}
 use Rattle.rl_value.specs.Order.{row_cmp}
-use Rattle.redo_vec.specs.declared.table.TableRow.{TableRow}
 use Rattle.redo_spec.specs.Tables.{RowsById, Rows, rows_by}
 use Rattle.row_apply.specs.declared.writes.Write.{Write}
 
@@ -40,7 +39,18 @@ abbrev pub written_all : RowsById → List Write → RowsById
 written_all by [] = by
 written_all by (w ∷ ws) = written_all (written_beside by w w.row) ws
 
--- how many rows these tables would have with so many more in each of them
-abbrev pub count_with : List TableRow → RowsById → ℕ → ℕ
-count_with [] by more = 0
-count_with (t ∷ ts) by more = (length (rows_by by t.id) + more) + count_with ts by more
+-- a write that puts a row where none is, and one that takes a row away
+abbrev pub is_added : RowsById → Write → Bool
+is_added by w = is_some w.row && not (is_some (entries.find row_cmp w.key (rows_by by w.table)))
+
+abbrev pub is_removed : RowsById → Write → Bool
+is_removed by w = not (is_some w.row) && is_some (entries.find row_cmp w.key (rows_by by w.table))
+
+-- how many of the writes do so
+abbrev pub added : RowsById → List Write → ℕ
+added by [] = 0
+added by (w ∷ ws) = cond (is_added by w) 1 0 + added by ws
+
+abbrev pub removed : RowsById → List Write → ℕ
+removed by [] = 0
+removed by (w ∷ ws) = cond (is_removed by w) 1 0 + removed by ws

@@ -1,4 +1,6 @@
 pub mod ById
 pub mod Progress
 pub mod Starts
+pub mod Beneath
+pub mod Unique
 pub mod Running

@@ -3,7 +3,7 @@
 -- commits there were, and count, SCN and tables after the last one that was applied. Or it has ended, by the first bad
 -- record, a miss or the row limit, and then nothing changes any more. Commits numbered at most the count where it begins
 -- change nothing.
-use Rattle.std.specs.Prelude.{ℕ, ◌+◌, List, [], ◌∷◌, ◌++◌, length, map, filter, fold, take, Bool, true, false, not, ◌-◌, nat_lt, if◌then◌else◌, Option, Some, None, Result, Ok, Err, unwrap_or}
+use Rattle.std.specs.Prelude.{ℕ, ◌+◌, List, [], ◌∷◌, filter, Bool, true, false, not, nat_lt, if◌then◌else◌, Option, Some, None, Result, Ok, Err, unwrap_or}
 use Rattle.std.specs.declared.cmp.Ordering.{Ordering}
 use Rattle.std.specs.Ordering.{nat_cmp, on, then_cmp}
 use Rattle.std.specs.Map.{lookup, remove_entry, set_value}
@@ -17,7 +17,6 @@ use Rattle.rl_value.specs.declared.verdict.Stop.TheVariants.{Malformed}
 use Rattle.rl_value.specs.declared.verdict.Verdict.{Verdict}
 use Rattle.rl_value.specs.declared.verdict.Verdict.TheVariants.{Stopped}
 use Rattle.rl_value.specs.Outcome.{map_ok}
-use Rattle.redo_vec.specs.declared.change.Change.{Change}
 use Rattle.redo_vec.specs.declared.table.TableRow.{TableRow}
 use Rattle.redo_vec.specs.declared.vector.Vector.{Vector}
 use Rattle.redo_vec.specs.declared.vector.Vector.TheVariants.{Start, Change as OfChange, Undo, Commit, Rollback, Table, DictEnd}

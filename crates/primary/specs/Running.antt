@@ -1,5 +1,5 @@
 -- What an evaluator keeps while its fold goes on, beside the progress that it is seen as.
-use Rattle.std.specs.Prelude.{◌≡◌, ⊤, ℕ, ◌≤◌, List, [], true, false, Option, Some, None, Result, Ok, Err, is_some, OnOk}
+use Rattle.std.specs.Prelude.{◌≡◌, ⊤, ℕ, List, [], true, false, Option, Some, None, Result, Err, is_some}
 use Rattle.std.specs.List.{AllByRecursion}
 use Rattle.std.specs.List.Sorted.{IsStrictlySortedBy}
 use Rattle.std.specs.Map.{keys_of}
@@ -9,13 +9,15 @@ use Rattle.redo_vec.specs.declared.table.TableRow.{TableRow}
 use Rattle.redo_spec.specs.ChangeForm.{change_fault}
 use Rattle.redo_spec.specs.History.{Placed}
 use Rattle.redo_spec.specs.Standing.{Standing, is_open}
-use Rattle.redo_spec.specs.Tables.{Tables}
+use Rattle.redo_spec.specs.Tables.{Tables, RowsById}
 use Rattle.redo_spec.specs.Fold.{Missed}
-use Rattle.redo_spec.specs.Tables.{assembled}
+use Rattle.redo_spec.specs.Tables.{assembled, row_count}
 use Rattle.row_apply.specs.Soundness.{AreSound}
 use Rattle.primary.specs.Progress.{OpenChanges, changes_of, xid_cmp, Ahead, Progress, Going, Ended, held_at}
 use Rattle.primary.specs.Starts.{tables_shown}
+use Rattle.primary.specs.Unique.{IsIndexed}
 use Rattle.primary.specs.declared.running.Running.{Running}
+use Rattle.primary.specs.declared.unique_index.UniqueIndex.{UniqueIndex}
 use Rattle.primary.specs.declared.effects.EffectsFault.{EffectsFault}
 use Rattle.primary.specs.declared.effects.EffectsFault.TheVariants as faults
 
@@ -54,11 +56,20 @@ abbrev pub progress_of : Option Verdict → Running → Progress
 progress_of None r = Going (ahead_of r)
 progress_of (Some v) r = Ended (held_at (ahead_of r) v)
 
+-- beside rows: the index of their unique values, and how many they are
+pub record AreKept (ts : List TableRow) (by : RowsById) (index : UniqueIndex) (count : ℕ) : Type 0 where
+  pub indexed : IsIndexed ts by index
+  pub counted : count ≡ row_count (assembled ts by)
+
+abbrev pub IsKept : Running → Type 0
+IsKept r = AreKept r.law.dictionary.tables r.tables r.index r.count
+
 pub record IsRunning (r : Running) : Type 0 where
   pub fits : Fits r.law r.live
   pub whole : r.whole ≡ r.law.dictionary.finished
   pub rec : r.rec ≡ r.law.rec
   pub sound : AreSound (tables_of r)
+  pub kept : IsKept r
   pub none : r.whole ≡ false → r.tables ≡ []
 
 -- a COMMIT of these changes may come: the dictionary is whole and accepts them

@@ -2,7 +2,7 @@
 use Rattle.std.specs.Prelude.{◌≡◌, ℕ, ◌≤◌, List, [], true, false, Bool, if◌then◌else◌, None}
 use Rattle.rl_value.specs.declared.verdict.Stop.{Stop}
 use Rattle.redo_vec.specs.declared.table.TableRow.{TableRow}
-use Rattle.redo_spec.specs.Dictionary.{Dictionary, no_dictionary}
+use Rattle.redo_spec.specs.Dictionary.{no_dictionary}
 use Rattle.redo_spec.specs.Tables.{RowsById, Tables, assembled}
 use Rattle.redo_spec.specs.History.{Entry, no_history}
 use Rattle.redo_spec.specs.Standing.{Standing}

@@ -4,24 +4,85 @@ ghost use Rattle.std.specs.List.{list_any};
 ghost use Rattle.std.specs.Option.{option_copied};
 ghost use Rattle.redo_spec.specs.ConflictKeys.{is_null};
 ghost use Rattle.redo_spec.specs.Dictionary.{table_of};
-ghost use Rattle.redo_spec.specs.Tables.{Tables, definitions_of, assembled, rows_by};
-ghost use Rattle.row_apply.specs.Found.{found_in, owner_of};
-ghost use Rattle.row_apply.specs.Soundness.{AreSound};
+ghost use Rattle.redo_spec.specs.Tables.{Tables, definitions_of, assembled, rows_by, owner_in};
+ghost use Rattle.row_apply.specs.Found.{found_in, owner_of, key_columns};
+ghost use Rattle.row_apply.specs.Soundness.{AreSound, AreSoundRows};
+ghost use Rattle.primary.specs.Unique.{IsIndexed, LeadsToRows};
 
+use crate::plain_rows::has_values;
 use crate::plain_tables::PlainTables;
+use crate::unique_index::UniqueIndex;
 use redo_dict::Dict;
+use redo_vec::TableRow;
 use rl_value::{Key, Row};
 use row_apply::Rows;
+use std::marker::Model;
 
-/// Rows, and the dictionary by which they are tables.
-#[derive(Clone, Copy)]
+/// Rows, the dictionary by which they are tables, and the index of their unique values.
+#[derive(Drop)]
 pub struct Based<'a> {
-    pub dict: &'a Dict,
-    pub tables: &'a PlainTables,
+    dict: &'a Dict,
+    tables: &'a PlainTables,
+    index: &'a UniqueIndex,
+}
+
+impl<'a> Model for Based<'a> {
+    ghost use Rattle.primary.specs.Beneath.{Beneath};
+    ghost use Rattle.primary.specs.Unique.{IsIndexed};
+
+    ghost Value = { Beneath };
+
+    ghost view = { λ b. record { dictionary = b.dict.now; rows = b.tables.now } };
+
+    ghost invariant = { λ b. IsIndexed b.dict.now.tables b.tables.now b.index.now };
+}
+
+impl<'a> Based<'a> {
+    /// The tables of these rows.
+    pub fn of(dict: &'a Dict, tables: &'a PlainTables, index: &'a UniqueIndex) -> Based<'a>
+        requires indexed { IsIndexed dict.now.tables tables.now index.now }
+        ensures dictionary { result.dictionary ≡ dict.now }
+        ensures rows { result.rows ≡ tables.now }
+    {
+        Based {
+            dict,
+            tables,
+            index,
+        }
+    }
+
+    /// The dictionary.
+    pub fn dict(&self) -> &Dict
+        ensures { result.now ≡ self.now.dictionary }
+    {
+        self.dict
+    }
+
+    // The owner of a unique value of this table: the row to which it leads, where that row has it.
+    fn owner_in(&self, table: &TableRow, key: &Key) -> Option<&Row>
+        requires unique { 0 < key.now.index }
+        requires inside { key.now.index < length table.now.keys }
+        requires there { table_of self.now.dictionary.tables key.now.table ≡ Some table.now }
+        requires sound { AreSoundRows table.now (rows_by self.now.rows key.now.table) }
+        requires filled { list_any is_null key.now.values ≡ false }
+        ensures { option_copied result ≡ owner_in (rows_by self.now.rows key.now.table) (key_columns table.now key.now.index) key.now.values }
+    {
+        let Some(primary) = self.index.lead(key) else {
+            return None;
+        };
+        let Some(row) = self.tables.get(key.table, primary) else {
+            return None;
+        };
+        let columns = &table.keys.items()[key.index as usize];
+        if has_values(row, columns.items(), key.values.values()) {
+            return Some(primary);
+        }
+        None
+    }
 }
 
 impl<'a> Rows for Based<'a> {
-    ghost tables = { λ b. assembled b.dict.now.tables b.tables.now };
+    ghost tables = { λ b. assembled b.dictionary.tables b.rows };
 
     fn get(&self, key: &Key) -> Option<&Row> {
         self.tables.get(key.table, &key.values)
@@ -30,11 +91,7 @@ impl<'a> Rows for Based<'a> {
     fn owner(&self, key: &Key) -> Option<&Row> {
         match self.dict.def(key.table) {
             None => None,
-            Some(table) => {
-                let columns = &table.keys.items()[key.index as usize];
-                self.tables
-                    .first_with(key.table, columns.items(), &key.values)
-            }
+            Some(table) => self.owner_in(table, key),
         }
     }
 }

@@ -32,18 +32,18 @@ pub fn effects_of(
     over: &mut Overlay,
 ) -> Result<(), EffectsFault>
     requires empty { over.old ≡ [] }
-    requires accepted { AreAccepted base.now.dict.now.tables changes.now }
-    requires sound { AreSound (assembled base.now.dict.now.tables base.now.tables.now) }
-    ensures done { OnOk result (effects (assembled base.now.dict.now.tables base.now.tables.now) (kept_of skips.now base.now.dict.now.tables n changes.now)
-        ≡ Ok (overlaid (assembled base.now.dict.now.tables base.now.tables.now) over.new)) }
-    ensures missed { IfErr result (TellsMiss (effects (assembled base.now.dict.now.tables base.now.tables.now) (kept_of skips.now base.now.dict.now.tables n changes.now))) }
-    ensures sound { OnOk result (AreSound (overlaid (assembled base.now.dict.now.tables base.now.tables.now) over.new)) }
-    ensures of_tables { OnOk result (IsTrue (are_of base.now.dict.now.tables over.new)) }
+    requires accepted { AreAccepted base.now.dictionary.tables changes.now }
+    requires sound { AreSound (assembled base.now.dictionary.tables base.now.rows) }
+    ensures done { OnOk result (effects (assembled base.now.dictionary.tables base.now.rows) (kept_of skips.now base.now.dictionary.tables n changes.now)
+        ≡ Ok (overlaid (assembled base.now.dictionary.tables base.now.rows) over.new)) }
+    ensures missed { IfErr result (TellsMiss (effects (assembled base.now.dictionary.tables base.now.rows) (kept_of skips.now base.now.dictionary.tables n changes.now))) }
+    ensures sound { OnOk result (AreSound (overlaid (assembled base.now.dictionary.tables base.now.rows) over.new)) }
+    ensures of_tables { OnOk result (IsTrue (are_of base.now.dictionary.tables over.new)) }
 {
     let mut rest = changes;
     while let [(pos, change), more @ ..] = rest {
-        if !skips.skipped(base.dict, change, n) {
-            match effect(base, base.dict, over, change) {
+        if !skips.skipped(base.dict(), change, n) {
+            match effect(base, base.dict(), over, change) {
                 Ok(()) => {}
                 Err(EffectFault::Memory) => return Err(EffectsFault::Memory),
                 Err(EffectFault::Miss(miss)) => {

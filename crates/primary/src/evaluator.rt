@@ -3,9 +3,12 @@ ghost use Rattle.std.specs.Prelude.{◌≡◌, ◌+◌, ◌<◌, ◌≤◌, ◌^
 ghost use Rattle.primary.specs.Progress.{is_going, recs_of, after_record, end_of};
 ghost use Rattle.primary.specs.Starts.{IsStart, begun, shown};
 
+use crate::indexing::index_tables;
 use crate::live_changes::LiveChanges;
 use crate::plain::{Folded, Plain};
 use crate::running::Running;
+use crate::unique_index::UniqueIndex;
+use crate::writing::count_rows;
 use redo_dict::Dict;
 use redo_law::Law;
 use redo_spec::Header;
@@ -53,6 +56,9 @@ impl Evaluator {
             Err(_) => return Err(NoMemory),
         };
         let whole = law.dict().finished();
+        let mut index = UniqueIndex::new(alloc);
+        index_tables(&mut index, law.dict().tables(), &tables)?;
+        let count = count_rows(law.dict(), &tables)?;
         let run = Running {
             alloc,
             law,
@@ -62,6 +68,8 @@ impl Evaluator {
             n,
             scn,
             tables,
+            index,
+            count,
             whole,
         };
         Ok(Evaluator { run, end: None })
@@ -108,6 +116,8 @@ impl Evaluator {
             n,
             scn,
             tables,
+            index: _,
+            count: _,
             whole,
         } = run;
         let dict = shown_by(alloc, law, whole);

@@ -4,6 +4,7 @@
 mod based;
 mod effects;
 mod evaluator;
+mod indexing;
 pub mod laws;
 mod live_changes;
 mod plain;
@@ -11,6 +12,10 @@ mod plain_fold;
 mod plain_rows;
 mod plain_tables;
 mod running;
+#[cfg(test)]
+mod tests;
+mod unique_index;
+mod unique_values;
 mod writing;
 
 pub use evaluator::Evaluator;

@@ -9,7 +9,7 @@ ghost use Rattle.redo_spec.specs.Tables.{owner_in, value_in, values_at};
 use rl_value::{NoMemory, Row, Value};
 use std::alloc::Global;
 use std::collections::BTreeMap;
-use std::collections::btree_map::Values;
+use std::collections::btree_map::{Iter, Values};
 use std::marker::Model;
 
 /// Rows by their primary keys.
@@ -101,6 +101,15 @@ impl PlainRows {
         self.rows.values()
     }
 
+    /// The rows with their keys, which rise.
+    #[tactic(auto, using(crate::proofs::MapLemmas::sorted_is))]
+    pub fn iter(&self) -> Iter<'_, Row, Row>
+        ensures rows { result ≡ self.now }
+        ensures rising { IsTrue (is_sorted row_cmp self.now) }
+    {
+        self.rows.iter()
+    }
+
     /// Equal rows.
     pub fn copy(&self) -> Result<PlainRows, NoMemory>
         ensures { IfOk result (λ copy. copy ≡ self.now) }
@@ -125,8 +134,8 @@ fn has_value(row: &Row, column: u8, value: &Value) -> bool
     }
 }
 
-// The row has these values in these columns, one for each.
-fn has_values(row: &Row, columns: &[u8], values: &[Value]) -> bool
+/// The row has these values in these columns, one for each.
+pub fn has_values(row: &Row, columns: &[u8], values: &[Value]) -> bool
     ensures { result ≡ eq_by_cmp row_cmp (values_at row.now columns.now) values.now }
 {
     let mut columns_left = columns;

@@ -1,5 +1,5 @@
 //! Rows by table and primary key.
-ghost use Rattle.std.specs.Prelude.{◌≡◌, ◌<◌, ◌^◌, IfOk, OnOk, OnErr, [], length, map};
+ghost use Rattle.std.specs.Prelude.{◌≡◌, ◌<◌, ◌^◌, IfOk, OnOk, OnErr, [], length, map, unwrap_or};
 ghost use Rattle.std.specs.Option.{option_copied};
 ghost use Rattle.std.specs.FinMap.Entries.{find};
 ghost use Rattle.rl_value.specs.Order.{row_cmp};
@@ -103,6 +103,14 @@ impl PlainTables {
             }
             Some(row) => self.put(table, key, row),
         }
+    }
+
+    /// The rows of the table, if any was ever put into it.
+    #[tactic(auto, using(crate::proofs::MapLemmas::rows_by_is))]
+    pub(crate) fn table(&self, table: u32) -> Option<&PlainRows>
+        ensures { unwrap_or (option_copied result) [] ≡ rows_by self.now table }
+    {
+        self.tables.get(&table)
     }
 
     /// How many rows the table has.

@@ -3,6 +3,7 @@ use crate::based::Based;
 use crate::effects::{EffectsFault, effects_of};
 use crate::live_changes::{LiveChanges, Survivors};
 use crate::plain_tables::PlainTables;
+use crate::unique_index::UniqueIndex;
 use crate::writing::put_in;
 use redo_law::{AdmitFault, Law};
 use redo_spec::Header;
@@ -25,35 +26,39 @@ pub struct Running {
     pub n: u64,
     pub scn: Scn,
     pub tables: PlainTables,
+    /// Which row has a unique value.
+    pub index: UniqueIndex,
+    /// How many rows there are.
+    pub count: u64,
     /// The dictionary is whole.
     pub whole: bool,
 }
 
 impl Running {
-    ghost use Rattle.std.specs.Prelude.{◌≡◌, ◌+◌, ◌<◌, ◌^◌, [], None, Ok, true, false, IfOk, IfErr, IfSome};
+    ghost use Rattle.std.specs.Prelude.{◌≡◌, ◌+◌, ◌<◌, ◌^◌, [], None, Ok, true, false, IfOk, IfErr, IfSome, IsTrue};
     ghost use Rattle.redo_spec.specs.Tables.{assembled};
     ghost use Rattle.redo_spec.specs.Fold.{effects};
-    ghost use Rattle.row_apply.specs.Overlaid.{overlaid};
+    ghost use Rattle.row_apply.specs.Overlaid.{overlaid, are_of};
     ghost use Rattle.row_apply.specs.Soundness.{AreSound};
     ghost use Rattle.primary.specs.Progress.{committed, kept_of, with_commit, after_record, Going};
-    ghost use Rattle.primary.specs.Running.{AreAccepted, TellsMiss, ahead_of, progress_of, tables_of, IsRunning, MayCommit};
+    ghost use Rattle.primary.specs.Running.{AreAccepted, TellsMiss, ahead_of, progress_of, tables_of, IsKept, IsRunning, MayCommit};
+    ghost use Rattle.primary.specs.Unique.{IsIndexed};
 
     // What the changes of the next commit write that are not passed over.
     fn writes_of(&self, skips: &Skips, changes: &[(Pos, Change)]) -> Result<Writes, EffectsFault>
         requires accepted { AreAccepted self.now.law.dictionary.tables changes.now }
         requires sound { AreSound (assembled self.now.law.dictionary.tables self.now.tables) }
+        requires indexed { IsIndexed self.now.law.dictionary.tables self.now.tables self.now.index }
         ensures done { IfOk result (λ writes. effects (assembled self.now.law.dictionary.tables self.now.tables) (kept_of skips.now self.now.law.dictionary.tables self.now.n changes.now)
             ≡ Ok (overlaid (assembled self.now.law.dictionary.tables self.now.tables) writes)) }
         ensures sound { IfOk result (λ writes. AreSound (overlaid (assembled self.now.law.dictionary.tables self.now.tables) writes)) }
+        ensures of_tables { IfOk result (λ writes. IsTrue (are_of self.now.law.dictionary.tables writes)) }
         ensures missed { IfErr result (TellsMiss (effects (assembled self.now.law.dictionary.tables self.now.tables) (kept_of skips.now self.now.law.dictionary.tables self.now.n changes.now))) }
     {
         let mut over = Overlay::new(self.alloc);
-        let base = Based {
-            dict: self.law.dict(),
-            tables: &self.tables,
-        };
+        let base = Based::of(self.law.dict(), &self.tables, &self.index);
         effects_of(&base, skips, self.n, changes, &mut over)?;
-        match over.writes() {
+        match over.into_writes() {
             Ok(writes) => Ok(writes),
             Err(NoMemory) => Err(EffectsFault::Memory),
         }
@@ -69,8 +74,10 @@ impl Running {
         requires whole { self.old.whole ≡ true }
         requires accepted { AreAccepted self.old.law.dictionary.tables changes }
         requires sound { AreSound (assembled self.old.law.dictionary.tables self.old.tables) }
+        requires kept { IsKept self.old }
         ensures taken { IfOk result (λ end. progress_of end self.new ≡ committed skips.now scn changes (ahead_of self.old)) }
         ensures sound { IfOk result (λ end. AreSound (assembled self.new.law.dictionary.tables self.new.tables)) }
+        ensures kept { IfOk result (λ end. IsKept self.new) }
         ensures law { IfOk result (λ end. self.new.law ≡ self.old.law) }
         ensures live { IfOk result (λ end. self.new.live ≡ self.old.live) }
         ensures rec { IfOk result (λ end. self.new.rec ≡ self.old.rec) }
@@ -99,7 +106,9 @@ impl Running {
                 }));
             }
         };
-        if !put_in(self.law.dict(), &mut self.tables, writes)? {
+        let index = &mut self.index;
+        let count = &mut self.count;
+        if !put_in(self.law.dict(), &mut self.tables, index, count, writes)? {
             return Ok(Some(Verdict::RowLimit { scn }));
         }
         self.made = made;
@@ -117,9 +126,11 @@ impl Running {
     ) -> Result<Option<Verdict>, NoMemory>
         requires may { IfSome commit (λ ps. MayCommit self.old ps) }
         requires sound { AreSound (tables_of self.old) }
+        requires kept { IsKept self.old }
         requires none { self.old.whole ≡ false → self.old.tables ≡ [] }
         ensures taken { IfOk result (λ end. progress_of end self.new ≡ with_commit skips.now scn commit (ahead_of self.old)) }
         ensures sound { IfOk result (λ end. AreSound (tables_of self.new)) }
+        ensures kept { IfOk result (λ end. IsKept self.new) }
         ensures none { IfOk result (λ end. self.new.whole ≡ false → self.new.tables ≡ []) }
         ensures law { IfOk result (λ end. self.new.law ≡ self.old.law) }
         ensures live { IfOk result (λ end. self.new.live ≡ self.old.live) }

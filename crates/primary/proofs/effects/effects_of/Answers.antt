@@ -1,4 +1,5 @@
-use Rattle.std.proofs.Common.{◌≡◌, ◌∙◌, sym, subst, ap, [], true}
+use Rattle.std.proofs.Common.{◌≡◌, ◌∙◌, sym, subst, ap}
+use Rattle.redo_spec.specs.Dictionary.{Dictionary}
 use Rattle.redo_spec.specs.Tables.{Tables, assembled}
 use Rattle.redo_spec.specs.Fold.{effects}
 use Rattle.row_apply.specs.Overlaid.{overlaid, are_of}
@@ -9,8 +10,8 @@ use Rattle.primary.proofs.effects.effects_of.Goals as goal
 
 pub loop-rest-init : goal.loop-rest-init
 loop-rest-init c =
-    let ts = c.args.base.now.dict.now.tables in
-    let tables = assembled ts c.args.base.now.tables.now in
+    let ts = c.args.base.now.dictionary.tables in
+    let tables = assembled ts c.args.base.now.rows in
     let none : overlaid tables c.args.over.now ≡ tables = ap (overlaid tables) c.requires.empty ∙ overlaid_none tables in
     let P : Tables → Type 0 = λ us. AreSound us in
     record {
@@ -21,4 +22,4 @@ loop-rest-init c =
     }
 
 pub effect-requires-clause-definitions : goal.effect-requires-clause-definitions
-effect-requires-clause-definitions c = definitions_assembled c.args.base.now.dict.now.tables c.args.base.now.tables.now
+effect-requires-clause-definitions c = definitions_assembled c.args.base.now.dictionary.tables c.args.base.now.rows ∙ ap (λ (d : Dictionary). d.tables) (sym c.dict-then-not-skipped.ensures)

@@ -1,4 +1,4 @@
-use Rattle.std.proofs.Common.{◌≡◌, ◌∙◌, ◌+◌, sym, ap, subst, not, nat_lt, true, false, cond, if◌then◌else◌, List, Ok, Err}
+use Rattle.std.proofs.Common.{◌≡◌, ◌∙◌, sym, ap, not, nat_lt, true, false, cond, List, Ok}
 use Rattle.redo_spec.specs.History.{Placed}
 use Rattle.redo_spec.specs.Tables.{assembled, row_count}
 use Rattle.redo_spec.specs.Fold.{live_row_limit, effects}

@@ -1,9 +1,8 @@
-use Rattle.std.proofs.Common.{◌≡◌, ◌∙◌, ◌+◌, ◌∷◌, sym, ap, subst, Option, Some, None, refl, List}
+use Rattle.std.proofs.Common.{◌≡◌, ◌∙◌, ◌+◌, ◌∷◌, sym, ap, subst, Option, refl, List}
 use Rattle.std.specs.Vec.Iter.{into_iter_items}
 use Rattle.rl_value.specs.declared.verdict.Verdict.{Verdict}
 use Rattle.redo_vec.specs.declared.vector.Vector.{Vector}
-use Rattle.redo_spec.specs.History.{Placed}
-use Rattle.primary.specs.Progress.{OpenChanges, Progress, Going, with_commit, commit_of, live_after}
+use Rattle.primary.specs.Progress.{Going, with_commit, live_after}
 use Rattle.primary.specs.Running.{ahead_of, progress_of}
 use Rattle.primary.specs.declared.running.Running.{Running}
 use Rattle.primary.proofs.StepLaws.{Steps, bad_ends, fault_told, left_told, steps_begin, steps_more, may_commit}
@@ -26,7 +25,7 @@ loop-vector-init c =
     let P : List Vector → Type 0 = λ vs. Steps c.args.skips.now c.args.head.now c.args.rec old now 1 vs in
     subst P (sym all)
     (steps_begin c.args.skips.now c.args.head.now c.args.rec old now c.requires.running (c.in-Ok.ensures).exact (c.in-Ok.ensures).admitted refl refl refl refl refl refl
-    (c.finished-self.ensures ∙ ap (λ d. d.finished) c.dict.ensures) c.into_items-vector-items.ensures.most)
+    (c.finished-self.ensures ∙ ap (λ d. d.finished) c.dict.ensures) refl refl c.into_items-vector-items.ensures.most)
 
 pub apply_commit-requires-clause-may : goal.apply_commit-requires-clause-may
 apply_commit-requires-clause-may c =
@@ -48,5 +47,5 @@ loop-vector-preserved c =
     ap (λ (o : Option Verdict). progress_of o c.apply_commit.new.self) (sym c.in_default.is) ∙ done.taken in
     let live : c.take.new.self ≡ live_after (record { rec = now.rec; vec = c.loop-vector.vec }) c.in-Some.vector now.live = c.in_ok-commit.ensures.live in
     steps_more c.args.skips.now c.args.head.now c.args.rec old now c.apply_commit.new.self c.loop-vector.vec c.in-Some.vector rest (subst P next c.loop-vector.invariant)
-    done.law done.rec done.whole (done.live ∙ live) done.sound done.none
+    done.law done.rec done.whole (done.live ∙ live) done.sound done.kept done.none
     (goes ∙ (λ i. with_commit c.args.skips.now c.args.rec.scn (c.in_ok-commit.ensures.commit i) (record (ahead_of now) { live = live i })))

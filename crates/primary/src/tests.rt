@@ -1,0 +1,368 @@
+//! Small redos, built from their types: what their folds show, and why they end.
+ghost use Rattle.std.specs.Prelude.{◌≡◌, IsTrue, IfOk};
+ghost use Rattle.redo_vec.specs.declared.columns.Kind.TheVariants.{Number};
+ghost use Rattle.redo_vec.specs.Forms.{is_line30};
+
+use crate::{Evaluator, Folded, Plain, fold_plain};
+use redo_spec::Header;
+use redo_vec::{
+    Change, Column, Columns, KeyColumns, KeyLists, Kind, Line30, Op, RedoRec, TableRow, Vector,
+    Vectors,
+};
+use rl_value::{Cells, Miss, Stop, Value, Verdict, Xid};
+use skip_guard::{SkipEntry, SkipRule, Skips};
+use std::alloc::Global;
+use std::test::Fail;
+
+const HEAD: Header = Header {
+    seq: 1,
+    dbid: 9,
+    first: 100,
+    next: 200,
+    count: 9,
+};
+
+const FIRST: Xid = Xid {
+    usn: 1,
+    slot: 2,
+    sqn: 3,
+};
+
+const SECOND: Xid = Xid {
+    usn: 1,
+    slot: 2,
+    sqn: 4,
+};
+
+fn word(alloc: Global, bytes: &[u8]) -> Result<Line30, Fail>
+    requires { IsTrue (is_line30 bytes.now) }
+{
+    Ok(Line30::of(Vec::from_slice(alloc, bytes)?))
+}
+
+// A column of numbers that may not be Null.
+fn number(alloc: Global, name: &[u8]) -> Result<Column, Fail>
+    requires { IsTrue (is_line30 name.now) }
+    ensures { IfOk result (λ column. column.kind ≡ Number) }
+{
+    Ok(Column {
+        name: word(alloc, name)?,
+        kind: Kind::Number,
+        nullable: false,
+    })
+}
+
+// T.A: one column ID, a number, which is the primary key.
+fn table(alloc: Global) -> Result<TableRow, Fail> {
+    let column = number(alloc, b"ID")?;
+    let key = KeyColumns::of(vec![in alloc; 0]?);
+    Ok(TableRow {
+        id: 1,
+        schema: word(alloc, b"T")?,
+        name: word(alloc, b"A")?,
+        columns: Columns::of(vec![in alloc; column]?),
+        keys: KeyLists::of(vec![in alloc; key]?),
+    })
+}
+
+fn insert(alloc: Global, xid: Xid, id: i64) -> Result<Vector, Fail> {
+    Ok(Vector::Change(Change {
+        xid,
+        op: Op::Insert,
+        table: 1,
+        old: Cells::of(Vec::new(alloc)),
+        new: Cells::of(vec![in alloc; (0, Value::Number(id))]?),
+    }))
+}
+
+fn one(alloc: Global, scn: u64, vector: Vector) -> Result<(Header, RedoRec), Fail> {
+    let vectors = Vectors::of(vec![in alloc; vector]?);
+    Ok((HEAD, RedoRec { scn, vectors }))
+}
+
+fn two(alloc: Global, scn: u64, first: Vector, second: Vector) -> Result<(Header, RedoRec), Fail> {
+    let vectors = Vectors::of(vec![in alloc; first, second]?);
+    Ok((HEAD, RedoRec { scn, vectors }))
+}
+
+// The dictionary, and a transaction that inserts 7 and commits.
+fn seven(alloc: Global) -> Result<Vec<(Header, RedoRec)>, Fail> {
+    let dictionary = two(alloc, 100, Vector::Table(table(alloc)?), Vector::DictEnd)?;
+    let change = two(alloc, 101, Vector::Start(FIRST), insert(alloc, FIRST, 7)?)?;
+    let commit = one(alloc, 102, Vector::Commit(FIRST))?;
+    Ok(vec![in alloc; dictionary, change, commit]?)
+}
+
+fn folded(alloc: Global, recs: &[(Header, RedoRec)]) -> Result<Folded, Fail> {
+    let skips = Skips::new(alloc);
+    Ok(fold_plain(alloc, Plain::first(alloc, 1, 99), recs, &skips)?)
+}
+
+#[test]
+fn a_commit_is_shown(rt: HostRuntime) -> Result<(), Fail> {
+    let alloc = rt.alloc();
+    let recs = seven(alloc)?;
+    let shown = folded(alloc, recs.as_slice())?;
+    assert_eq!(rt; shown.n, 1);
+    assert_eq!(rt; shown.scn, 102);
+    assert_eq!(rt; shown.tables.count(1), 1);
+    assert_eq!(rt; shown.dict.def(1).is_some(), true);
+    let drained = matches!(&shown.end, Verdict::Stopped(Stop::Drained));
+    assert_eq!(rt; drained, true);
+    let Some(row) = shown.tables.rows(1).next() else {
+        assert_eq!(rt; true, false, "a row");
+        return Ok(());
+    };
+    let wanted = [Value::Number(7)];
+    let same = row.values() == wanted.as_slice();
+    assert_eq!(rt; same, true);
+    Ok(())
+}
+
+#[test]
+fn undone_and_rolled_back_changes_are_not_shown(rt: HostRuntime) -> Result<(), Fail> {
+    let alloc = rt.alloc();
+    let mut recs = seven(alloc)?;
+    let begin = two(alloc, 103, Vector::Start(FIRST), insert(alloc, FIRST, 8)?)?;
+    let undo = two(alloc, 104, insert(alloc, FIRST, 9)?, Vector::Undo(FIRST))?;
+    recs.push(begin)?;
+    recs.push(undo)?;
+    let other = two(
+        alloc,
+        105,
+        Vector::Start(SECOND),
+        insert(alloc, SECOND, 10)?,
+    )?;
+    recs.push(other)?;
+    recs.push(one(alloc, 106, Vector::Rollback(SECOND))?)?;
+    recs.push(one(alloc, 107, Vector::Commit(FIRST))?)?;
+    let shown = folded(alloc, recs.as_slice())?;
+    assert_eq!(rt; shown.n, 2);
+    assert_eq!(rt; shown.tables.count(1), 2);
+    Ok(())
+}
+
+#[test]
+fn a_key_that_is_there_is_a_mismatch(rt: HostRuntime) -> Result<(), Fail> {
+    let alloc = rt.alloc();
+    let mut recs = seven(alloc)?;
+    let again = two(alloc, 103, Vector::Start(SECOND), insert(alloc, SECOND, 7)?)?;
+    recs.push(again)?;
+    recs.push(one(alloc, 104, Vector::Commit(SECOND))?)?;
+    // A bad record behind it is not told.
+    recs.push(one(alloc, 50, Vector::DictEnd)?)?;
+    let shown = folded(alloc, recs.as_slice())?;
+    assert_eq!(rt; shown.n, 1);
+    assert_eq!(rt; shown.scn, 102);
+    let exists = matches!(
+        &shown.end,
+        Verdict::Mismatch {
+            scn: 104,
+            miss: Miss::Exists(_),
+            ..
+        }
+    );
+    assert_eq!(rt; exists, true);
+    Ok(())
+}
+
+#[test]
+fn a_bad_record_ends_the_fold(rt: HostRuntime) -> Result<(), Fail> {
+    let alloc = rt.alloc();
+    let mut recs = seven(alloc)?;
+    recs.push(one(alloc, 103, Vector::DictEnd)?)?;
+    let shown = folded(alloc, recs.as_slice())?;
+    assert_eq!(rt; shown.n, 1);
+    let bad = matches!(&shown.end, Verdict::Stopped(Stop::Malformed { rec: 4, .. }));
+    assert_eq!(rt; bad, true);
+    Ok(())
+}
+
+#[test]
+fn a_fold_that_has_ended_takes_no_more(rt: HostRuntime) -> Result<(), Fail> {
+    let alloc = rt.alloc();
+    let skips = Skips::new(alloc);
+    let mut fold = Evaluator::new(alloc, Plain::first(alloc, 1, 99))?;
+    let bad = one(alloc, 100, Vector::Commit(FIRST))?;
+    assert_eq!(rt; fold.take(&HEAD, bad.1, &skips)?, false);
+    let dictionary = two(alloc, 100, Vector::Table(table(alloc)?), Vector::DictEnd)?;
+    assert_eq!(rt; fold.take(&HEAD, dictionary.1, &skips)?, false);
+    let shown = fold.finish(Stop::Drained);
+    assert_eq!(rt; shown.n, 0);
+    assert_eq!(rt; shown.dict.tables().len(), 0);
+    Ok(())
+}
+
+#[test]
+fn a_rule_counts_from_the_next_commit(rt: HostRuntime) -> Result<(), Fail> {
+    let alloc = rt.alloc();
+    let recs = seven(alloc)?;
+    for (from, rows) in [(0, 0), (1, 1)] {
+        let mut skips = Skips::new(alloc);
+        let rule = SkipRule::Transaction(FIRST);
+        let taken = skips.add(SkipEntry { rule, from }).is_ok();
+        assert_eq!(rt; taken, true);
+        let shown = fold_plain(alloc, Plain::first(alloc, 1, 99), recs.as_slice(), &skips)?;
+        assert_eq!(rt; shown.n, 1);
+        assert_eq!(rt; shown.tables.count(1), rows, "from {from}");
+    }
+    Ok(())
+}
+
+// T.B: ID, which is the primary key, and CODE, which is a unique key; numbers.
+fn coded_table(alloc: Global) -> Result<TableRow, Fail> {
+    let id = number(alloc, b"ID")?;
+    let code = number(alloc, b"CODE")?;
+    let primary = KeyColumns::of(vec![in alloc; 0]?);
+    let unique = KeyColumns::of(vec![in alloc; 1]?);
+    Ok(TableRow {
+        id: 1,
+        schema: word(alloc, b"T")?,
+        name: word(alloc, b"B")?,
+        columns: Columns::of(vec![in alloc; id, code]?),
+        keys: KeyLists::of(vec![in alloc; primary, unique]?),
+    })
+}
+
+fn cells(alloc: Global, id: i64, code: i64) -> Result<Cells, Fail> {
+    Ok(Cells::of(vec![in alloc; (0, Value::Number(id)), (1, Value::Number(code))]?))
+}
+
+/// A change of the row of this id of T.B, from one code to another.
+#[derive(Clone, Copy)]
+struct Coded {
+    scn: u64,
+    op: Op,
+    id: i64,
+    old: i64,
+    new: i64,
+}
+
+const CODED: [Coded; 4] = [
+    Coded {
+        scn: 101,
+        op: Op::Insert,
+        id: 1,
+        old: 0,
+        new: 7,
+    },
+    Coded {
+        scn: 102,
+        op: Op::Update,
+        id: 1,
+        old: 7,
+        new: 8,
+    },
+    Coded {
+        scn: 103,
+        op: Op::Insert,
+        id: 2,
+        old: 0,
+        new: 7,
+    },
+    Coded {
+        scn: 104,
+        op: Op::Delete,
+        id: 2,
+        old: 7,
+        new: 0,
+    },
+];
+
+fn old_cells(alloc: Global, coded: Coded) -> Result<Cells, Fail> {
+    match coded.op {
+        Op::Insert => Ok(Cells::of(Vec::new(alloc))),
+        Op::Update | Op::Delete => cells(alloc, coded.id, coded.old),
+    }
+}
+
+fn new_cells(alloc: Global, coded: Coded) -> Result<Cells, Fail> {
+    match coded.op {
+        Op::Insert => cells(alloc, coded.id, coded.new),
+        Op::Update => Ok(Cells::of(vec![in alloc; (1, Value::Number(coded.new))]?)),
+        Op::Delete => Ok(Cells::of(Vec::new(alloc))),
+    }
+}
+
+fn coded_change(alloc: Global, coded: Coded) -> Result<Vector, Fail> {
+    Ok(Vector::Change(Change {
+        xid: FIRST,
+        op: coded.op,
+        table: 1,
+        old: old_cells(alloc, coded)?,
+        new: new_cells(alloc, coded)?,
+    }))
+}
+
+// A transaction of this change and no other.
+fn transaction(alloc: Global, recs: &mut Vec<(Header, RedoRec)>, coded: Coded) -> Result<(), Fail> {
+    let change = coded_change(alloc, coded)?;
+    recs.push(two(alloc, coded.scn, Vector::Start(FIRST), change)?)?;
+    recs.push(one(alloc, coded.scn, Vector::Commit(FIRST))?)?;
+    Ok(())
+}
+
+// The dictionary, so many of the transactions, and one that inserts row 3 with this code.
+fn coded_redo(alloc: Global, count: usize, code: i64) -> Result<Vec<(Header, RedoRec)>, Fail> {
+    let table = Vector::Table(coded_table(alloc)?);
+    let dictionary = two(alloc, 100, table, Vector::DictEnd)?;
+    let mut recs = vec![in alloc; dictionary]?;
+    for coded in CODED.iter().take(count) {
+        transaction(alloc, &mut recs, *coded)?;
+    }
+    let last = Coded {
+        scn: 105,
+        op: Op::Insert,
+        id: 3,
+        old: 0,
+        new: code,
+    };
+    transaction(alloc, &mut recs, last)?;
+    Ok(recs)
+}
+
+// The row that has the unique value for which the fold ends.
+fn owner_told(end: &Verdict) -> Option<i64> {
+    let Verdict::Mismatch {
+        miss: Miss::Taken { index: 1, owner },
+        ..
+    } = end
+    else {
+        return None;
+    };
+    match owner.values.values() {
+        [Value::Number(id)] => Some(*id),
+        _ => None,
+    }
+}
+
+#[test]
+fn a_unique_value_has_the_owner_that_it_has_now(rt: HostRuntime) -> Result<(), Fail> {
+    let alloc = rt.alloc();
+    let cases = [
+        (0, 7, None),
+        (1, 7, Some(1)),
+        (2, 7, None),
+        (2, 8, Some(1)),
+        (3, 7, Some(2)),
+        (4, 7, None),
+        (4, 8, Some(1)),
+    ];
+    for (count, code, owner) in cases {
+        let recs = coded_redo(alloc, count, code)?;
+        let shown = folded(alloc, recs.as_slice())?;
+        assert_eq!(rt; owner_told(&shown.end), owner, "{code} after {count}");
+    }
+    Ok(())
+}
+
+#[test]
+fn a_copy_has_the_same_rows(rt: HostRuntime) -> Result<(), Fail> {
+    let alloc = rt.alloc();
+    let recs = seven(alloc)?;
+    let shown = folded(alloc, recs.as_slice())?.copy()?;
+    assert_eq!(rt; shown.tables.count(1), 1);
+    let start = Plain::first(alloc, 1, 99).copy()?;
+    assert_eq!(rt; start.scn, 99);
+    Ok(())
+}
