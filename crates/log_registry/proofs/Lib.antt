@@ -1,0 +1,3 @@
+pub mod FrontLaws
+pub mod HeaderLaws
+pub mod ListLaws

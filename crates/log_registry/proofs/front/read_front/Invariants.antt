@@ -1,0 +1,19 @@
+use Rattle.std.proofs.Common.{◌≡◌, ◌≤◌, ◌-◌, length}
+use Rattle.rl_ports.specs.Faults.{Told}
+use Rattle.log_registry.specs.Front.{IsReadTo}
+use Rattle.log_registry.proofs.front.read_front.Given as goal
+
+abbrev pub invariant-loop-count : goal.invariant-loop-count
+invariant-loop-count g l =
+    let logs = g.A.Archive.logs in
+    let faults = g.A.Archive.faults in
+    record {
+      size : length l.front ≡ 40;
+      within : l.count ≤ 40;
+      read : Told (logs l.fn.archive) (λ known. IsReadTo (known l.seq) l.front l.count);
+      same : logs l.archive ≡ logs l.fn.archive;
+      later : faults l.fn.archive ≤ faults l.archive;
+    }
+
+abbrev pub decreases-loop-count : goal.decreases-loop-count
+decreases-loop-count g l = 40 - l.count
