@@ -1,0 +1,4 @@
+pub mod CutLaws
+pub mod EntryLaws
+pub mod RedoLaws
+pub mod StepLaws

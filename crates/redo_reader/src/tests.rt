@@ -1,0 +1,262 @@
+ghost use Rattle.std.specs.Prelude.{◌≤◌, ◌<◌, ◌+◌, ◌*◌, ◌^◌, length, IfOk, None, false, refl};
+ghost use Rattle.rl_ports.specs.Faults.{HasCause};
+ghost use Rattle.redo_reader.specs.Reading.{count_of};
+
+use super::*;
+use log_registry::{LogEntry, Registry, inspect};
+use rl_ports::{Archive, Failed};
+use rl_value::{Cause, CutFault, Stop};
+use std::alloc::Global;
+use std::test::Fail;
+
+// Each log has a header and records of 23 bytes: a length, an SCN, the number of vectors and one vector of 9 bytes.
+const RECORD: [u8; 23] = [
+    0, 0, 0, 23, 0, 0, 0, 0, 0, 0, 0, 101, 0, 1, 6, 0, 1, 0, 2, 0, 0, 0, 3,
+];
+
+const HEAD: [u8; 40] = [
+    0x53, 0x52, 0x4c, 0x31, 0, 1, 0, 1, 0, 0, 0, 9, 0, 0, 0, 1, 0, 0, 0, 0, 0, 0, 0, 0x64, 0, 0, 0,
+    0, 0, 0, 0, 0xc8, 0, 0, 0, 3, 0, 0, 0, 0,
+];
+
+// Log 1 has three records, logs 2 and 5 have two, log 8 has five, and its last byte is missing.
+fn records_of_log(seq: u32) -> u8 {
+    match seq {
+        1 => 3,
+        8 => 5,
+        _ => 2,
+    }
+}
+
+fn size_of_log(seq: u32) -> usize {
+    match seq {
+        1 => 109,
+        8 => 154,
+        _ => 86,
+    }
+}
+
+fn byte_of_log(seq: u32, at: usize) -> u8 {
+    if at >= 40 {
+        return RECORD[(at - 40) % 23];
+    }
+    if at == 15 {
+        return (seq % 256) as u8;
+    }
+    if at == 35 {
+        return records_of_log(seq);
+    }
+    HEAD[at]
+}
+
+/// An archive that tells nothing. A read gives so many bytes at most.
+#[derive(Drop)]
+struct Shelf {
+    most: usize,
+    calls: u64,
+    fails_at: u64,
+    faults: u64,
+}
+
+impl Shelf {
+    fn call(&mut self) -> Result<(), Failed>
+        ensures { HasCause self.old.faults self.new.faults result }
+    {
+        self.calls = self.calls.saturating_add(1);
+        if self.calls == self.fails_at {
+            self.faults = self.faults.saturating_add(1);
+            return Err(Failed);
+        }
+        Ok(())
+    }
+}
+
+impl Archive for Shelf {
+    ghost tells = { false };
+
+    ghost logs = { λ _. None };
+
+    ghost faults = { λ shelf. shelf.faults };
+
+    ghost telling = { λ _. refl };
+
+    fn length(&mut self, seq: u32) -> Result<Option<u64>, Failed> {
+        self.call()?;
+        Ok(Some(size_of_log(seq) as u64))
+    }
+
+    fn read(&mut self, seq: u32, at: u64, into: &mut [u8]) -> Result<usize, Failed> {
+        self.call()?;
+        let size = size_of_log(seq);
+        if at >= size as u64 {
+            return Ok(0);
+        }
+        let start = at as usize;
+        let count = (size - start).min(into.len()).min(self.most);
+        for (step, byte) in into[..count].iter_mut().enumerate() {
+            *byte = byte_of_log(seq, start + step);
+        }
+        Ok(count)
+    }
+}
+
+#[derive(Clone, Copy, Debug, PartialEq, Eq)]
+enum Seen {
+    Record(u64, u32),
+    Drained,
+    Missing(u32, u32),
+    Cut(u64, CutFault),
+    Faulted,
+    Other,
+}
+
+fn seen_of(cut: Result<Cut, CutError>) -> Seen {
+    match cut {
+        Ok(Cut::Raw(raw)) => Seen::Record(raw.rec, raw.head.seq),
+        Ok(Cut::End(Stop::Drained)) => Seen::Drained,
+        Ok(Cut::End(Stop::Gap { low, high })) => Seen::Missing(low, high),
+        Ok(
+            Cut::End(
+                Stop::Malformed {
+                    rec,
+                    cause: Cause::Cut(fault),
+                },
+            ),
+        ) => Seen::Cut(rec, fault),
+        Err(CutError::ArchiveFault) => Seen::Faulted,
+        _ => Seen::Other,
+    }
+}
+
+#[tactic(auto, using(crate::proofs::EntryLaws::count_with))]
+fn register(registry: &mut Registry, entry: LogEntry) -> Result<(), Fail>
+    ensures { count_of registry.new ≤ count_of registry.old + 2 ^ 32 }
+{
+    if registry.has(entry.head.seq) {
+        return Ok(());
+    }
+    match registry.insert(entry) {
+        Ok(()) => Ok(()),
+        Err(_) => Err(Fail::from("no memory")),
+    }
+}
+
+fn registry_of(alloc: Global, logs: &[u32]) -> Result<Registry, Fail>
+    requires { length logs.now ≤ 3 }
+    ensures { IfOk result (λ registry. count_of registry ≤ 3 * 2 ^ 32) }
+{
+    let mut shelf = Shelf {
+        most: 40,
+        calls: 0,
+        fails_at: 0,
+        faults: 0,
+    };
+    let mut registry = Registry::new(alloc);
+    for seq in logs {
+        let Ok(entry) = inspect(&mut shelf, *seq, 9) else {
+            return Err(Fail::from("no log"));
+        };
+        register(&mut registry, entry)?;
+    }
+    Ok(registry)
+}
+
+fn reader_of(
+    alloc: Global,
+    logs: &[u32],
+    most: usize,
+    fails_at: u64,
+    place: Place,
+) -> Result<ReadSide<Shelf>, Fail>
+    requires logs { length logs.now ≤ 3 }
+    requires place { place.rec < 10 }
+{
+    let registry = registry_of(alloc, logs)?;
+    let shelf = Shelf {
+        most,
+        calls: 0,
+        fails_at,
+        faults: 0,
+    };
+    match ReadSide::new(alloc, shelf, registry, place) {
+        Ok(reader) => Ok(reader),
+        Err(_) => Err(Fail::from("no memory")),
+    }
+}
+
+const START: Place = Place {
+    seq: 1,
+    at: 40,
+    done: 0,
+    rec: 0,
+};
+
+#[test]
+fn a_gap_ends_the_records_for_good(rt: HostRuntime) -> Result<(), Fail> {
+    let want = [
+        Seen::Record(1, 1),
+        Seen::Record(2, 1),
+        Seen::Record(3, 1),
+        Seen::Record(4, 2),
+        Seen::Record(5, 2),
+        Seen::Missing(3, 4),
+        Seen::Missing(3, 4),
+    ];
+    for most in [1, 7, 200] {
+        let mut reader = reader_of(rt.alloc(), &[1, 2, 5], most, 0, START)?;
+        for cut in want {
+            assert_eq!(rt; seen_of(reader.cut()), cut, "reads of {most} bytes");
+        }
+    }
+    Ok(())
+}
+
+#[test]
+fn a_record_without_its_last_byte_is_malformed(rt: HostRuntime) -> Result<(), Fail> {
+    let place = Place {
+        seq: 8,
+        at: 40,
+        done: 0,
+        rec: 0,
+    };
+    let mut reader = reader_of(rt.alloc(), &[8], 200, 0, place)?;
+    for rec in 1..5 {
+        assert_eq!(rt; seen_of(reader.cut()), Seen::Record(rec, 8));
+    }
+    for _ in 0..2 {
+        assert_eq!(rt; seen_of(reader.cut()), Seen::Cut(5, CutFault::Truncated));
+    }
+    Ok(())
+}
+
+// From the second record of log 1 on, in short reads of which one fails.
+#[test]
+fn a_fault_is_told_and_then_the_reading_goes_on(rt: HostRuntime) -> Result<(), Fail> {
+    let place = Place {
+        seq: 1,
+        at: 63,
+        done: 1,
+        rec: 1,
+    };
+    let want = [
+        Seen::Record(2, 1),
+        Seen::Record(3, 1),
+        Seen::Record(4, 2),
+        Seen::Record(5, 2),
+        Seen::Drained,
+    ];
+    for fails_at in 1..10 {
+        let mut reader = reader_of(rt.alloc(), &[1, 2], 11, fails_at, place)?;
+        let mut faulted = false;
+        for cut in want {
+            let mut found = seen_of(reader.cut());
+            if found == Seen::Faulted {
+                faulted = true;
+                found = seen_of(reader.cut());
+            }
+            assert_eq!(rt; found, cut, "call {fails_at}");
+        }
+        assert!(rt; faulted, "call {fails_at}");
+    }
+    Ok(())
+}
