@@ -1,0 +1,4 @@
+mod Slots
+mod Raws
+mod Windows
+mod Runs
