@@ -1,0 +1,132 @@
+//! The archived logs as files of the current folder: `redo/log_<sequence>.srl`.
+//!
+//! A file that is not there is an absent log. Whatever else keeps a call from its answer is a failure and is counted:
+//! a folder or a device in a log's place, a file that may not be read, want of memory for its name.
+ghost use Rattle.std.specs.Prelude.{◌≡◌, None, false, refl};
+ghost use Rattle.std.specs.Io.{ReadsAtMost};
+
+use rl_ports::{Archive, Failed};
+use rl_value::NoMemory;
+use std::alloc::AllocError;
+use std::fs;
+use std::fs::{File, Files};
+use std::io::{ErrorKind, Read, Seek, SeekFrom};
+
+// The file of a log that was read last.
+#[derive(Drop)]
+struct OpenLog<F: Drop> {
+    seq: u32,
+    file: F,
+}
+
+/// The logs in `redo`. The log that was read last stays open; after a failure it is opened anew.
+#[derive(Drop)]
+pub struct FileArchive<'r, R: Files> {
+    rt: &'r R,
+    last: Option<OpenLog<R::File>>,
+    faults: u64,
+}
+
+impl<'r, R: Files> FileArchive<'r, R> {
+    /// Opens nothing yet.
+    pub fn new(rt: &'r R) -> Result<FileArchive<'r, R>, NoMemory> {
+        Ok(FileArchive {
+            rt,
+            last: None,
+            faults: 0,
+        })
+    }
+}
+
+fn path_of<R: AllocGlobal>(rt: &R, seq: u32) -> Result<String, AllocError> {
+    format!(in rt.alloc(); "redo/log_{seq}.srl")
+}
+
+// The length of a log's file, if it is there.
+fn size_of<R: Files + AllocGlobal>(rt: &R, seq: u32) -> Result<Option<u64>, Failed> {
+    let Ok(path) = path_of(rt, seq) else {
+        return Err(Failed);
+    };
+    match fs::metadata(rt, path.as_str()) {
+        Ok(found) if found.is_file() => Ok(Some(found.len())),
+        Ok(_) => Err(Failed),
+        Err(error) if error.kind() == ErrorKind::NotFound => Ok(None),
+        Err(_) => Err(Failed),
+    }
+}
+
+fn open<R: Files + AllocGlobal>(rt: &R, seq: u32) -> Result<R::File, Failed> {
+    let Ok(path) = path_of(rt, seq) else {
+        return Err(Failed);
+    };
+    match File::open(rt, path.as_str()) {
+        Ok(file) => Ok(file),
+        Err(_) => Err(Failed),
+    }
+}
+
+// Some bytes of a file from this place on.
+fn read_at<F: Read + Seek>(file: &mut F, at: u64, into: &mut [u8]) -> Result<usize, Failed>
+    ensures { ReadsAtMost result into.new }
+{
+    if file.seek(SeekFrom::Start(at)).is_err() {
+        return Err(Failed);
+    }
+    match file.read(into) {
+        Ok(taken) => Ok(taken),
+        Err(_) => Err(Failed),
+    }
+}
+
+impl<R: Files + AllocGlobal> FileArchive<'_, R> {
+    // Takes the file of this log, opened anew unless it is the one that is open.
+    fn take_file(&mut self, seq: u32) -> Result<R::File, Failed>
+        ensures { self.new.faults ≡ self.old.faults }
+    {
+        match self.last.take() {
+            Some(log) if log.seq == seq => Ok(log.file),
+            _ => open(self.rt, seq),
+        }
+    }
+
+    // Some bytes of a log. Its file stays open, unless the read fails.
+    fn read_log(&mut self, seq: u32, at: u64, into: &mut [u8]) -> Result<usize, Failed>
+        ensures bound { ReadsAtMost result into.new }
+        ensures faults { self.new.faults ≡ self.old.faults }
+    {
+        let mut file = self.take_file(seq)?;
+        let count = read_at(&mut file, at, into)?;
+        self.last = Some(OpenLog { seq, file });
+        Ok(count)
+    }
+}
+
+impl<R: Files + AllocGlobal> Archive for FileArchive<'_, R> {
+    ghost tells = { false };
+
+    ghost logs = { λ _. None };
+
+    ghost faults = { λ archive. archive.faults };
+
+    ghost telling = { λ _. refl };
+
+    fn length(&mut self, seq: u32) -> Result<Option<u64>, Failed> {
+        match size_of(self.rt, seq) {
+            Ok(found) => Ok(found),
+            Err(failed) => {
+                self.faults = self.faults.saturating_add(1);
+                Err(failed)
+            }
+        }
+    }
+
+    fn read(&mut self, seq: u32, at: u64, into: &mut [u8]) -> Result<usize, Failed> {
+        match self.read_log(seq, at, into) {
+            Ok(count) => Ok(count),
+            Err(failed) => {
+                self.faults = self.faults.saturating_add(1);
+                Err(failed)
+            }
+        }
+    }
+}

@@ -1,0 +1,46 @@
+//! Each device once over a real file or stream.
+use crate::{FileArchive, StdSink, StdSource};
+use rl_ports::{Archive, Sink, Source};
+use std::fs;
+use std::test::Fail;
+
+const FOLDER: &str = "redo";
+
+#[test]
+fn logs_are_files_of_the_folder(rt: HostRuntime) -> Result<(), Fail> {
+    let _ = fs::remove_dir_all(&rt, FOLDER);
+    fs::create_dir(&rt, FOLDER)?;
+    fs::write(&rt, "redo/log_7.srl", b"abcdef".as_slice())?;
+    fs::create_dir(&rt, "redo/log_8.srl")?;
+    let mut archive = FileArchive::new(&rt)?;
+    let mut some = [0u8; 4];
+    assert!(rt; matches!(archive.length(7), Ok(Some(6))));
+    assert!(rt; matches!(archive.read(7, 1, &mut some), Ok(4)));
+    assert_eq!(rt; some, *b"bcde");
+    assert!(rt; matches!(archive.read(7, 5, &mut some), Ok(1)));
+    assert!(rt; matches!(archive.read(7, 6, &mut some), Ok(0)));
+    // An absent log is no failure, as long as it is not read. A folder in a log's place is one.
+    assert!(rt; matches!(archive.length(9), Ok(None)));
+    assert!(rt; archive.read(9, 0, &mut some).is_err());
+    assert!(rt; archive.length(8).is_err());
+    // A log that was read before is opened anew.
+    assert!(rt; matches!(archive.read(7, 0, &mut some), Ok(4)));
+    assert_eq!(rt; some, *b"abcd");
+    fs::remove_dir_all(&rt, FOLDER)?;
+    Ok(())
+}
+
+#[test]
+fn the_input_is_read_to_its_end(rt: HostRuntime) -> Result<(), Fail> {
+    let mut source = StdSource::new(&rt)?;
+    assert!(rt; matches!(source.read(&mut []), Ok(0)));
+    Ok(())
+}
+
+#[test]
+fn the_output_takes_bytes(rt: HostRuntime) -> Result<(), Fail> {
+    let mut sink = StdSink::new(&rt)?;
+    assert!(rt; matches!(sink.write(b"\n"), Ok(1)));
+    assert!(rt; matches!(sink.write(b""), Ok(0)));
+    Ok(())
+}
