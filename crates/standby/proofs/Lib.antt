@@ -1,9 +1,6 @@
 mod Appending
 mod Digits
-mod Fronts
-mod OnePiece
-mod AreWhole
 mod Lines
 mod OneLog
 mod Prints
-mod Taken
+mod Steps

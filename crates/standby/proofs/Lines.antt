@@ -7,7 +7,7 @@ use Rattle.redo_vec.specs.declared.table.TableRow.{TableRow}
 use Rattle.redo_spec.specs.Tables.{Rows, RowsById, Table, assembled, definitions_of, rows_by}
 use Rattle.std.proofs.lemmas.Grind.{flat_map-append}
 use Rattle.std.proofs.lemmas.List.{append_assoc}
-use Rattle.redo_spec.specs.Lines.{Line, words, written, table_lines, fold_lines, end_line, verdict_text}
+use Rattle.redo_spec.specs.Lines.{words, written, table_lines, fold_lines, end_line, verdict_text}
 use Rattle.rl_value.specs.Literal.{row_text}
 use Rattle.primary.specs.declared.plain.Folded.{Folded as Plainly}
 use Rattle.primary.specs.Starts.{shown}

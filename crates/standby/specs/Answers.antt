@@ -15,7 +15,7 @@ use Rattle.rl_value.specs.declared.verdict.Verdict.{Verdict}
 use Rattle.rl_value.specs.declared.verdict.Verdict.TheVariants.{Stopped, Mismatch, RowLimit}
 use Rattle.rl_ports.specs.Faults.{Told}
 use Rattle.standby.specs.declared.command.Command.{Command}
-use Rattle.standby.specs.declared.command.Command.TheVariants.{Fold, Later}
+use Rattle.standby.specs.declared.command.Command.TheVariants.{Fold}
 use Rattle.redo_spec.specs.Redo.{fold_of_log}
 use Rattle.redo_spec.specs.Lines.{written, fold_lines}
 use Rattle.standby.specs.Writing.{AppendsPrefix}

@@ -1,16 +1,18 @@
-//! The command `fold SEQ`: fetches one log, folds it over empty tables, and prints what comes out.
+//! The command `fold SEQ`: folds one log over empty tables, and prints what comes out.
 //!
 //! The whole text is built before its first byte is written. So a fold that is refused has written its last line alone.
-ghost use Rattle.std.specs.Prelude.{◌≡◌, ◌≤◌, ◌≢◌, IfOk};
-ghost use Rattle.std.specs.Option.{option_map};
+ghost use Rattle.std.specs.Prelude.{◌≡◌, ◌≤◌, ◌≢◌, IfOk, Err};
 ghost use Rattle.rl_ports.specs.Faults.{Rose, Told};
-ghost use Rattle.standby.specs.Printout.{IsPrintout};
+ghost use Rattle.standby.specs.Printout.{IsPrintoutOf, IsWritten, IsPrefixWritten};
+ghost use Rattle.standby.specs.declared.reading.FoldFault.TheVariants.{Failed as FoldFailed};
 ghost use Rattle.standby.specs.Answers.{Comes, IsEnd, Prints, PrintsPrefix, SaysFault, fault_word, end_status};
 
-use crate::fetch::{FetchFault, fetch};
-use crate::folding::folded_log;
+use crate::finished::Finished;
+use crate::folding::{FoldedLog, folded_log};
 use crate::printing::text_of;
+use crate::reading::FoldFault;
 use crate::say::{refuse, say};
+use primary::Folded;
 use rl_base::Status;
 use rl_ports::{Archive, Sink};
 use rl_value::{NoMemory, Stop, Verdict};
@@ -43,55 +45,74 @@ struct Printout {
     text: Vec<u8>,
 }
 
-// The fold of the log with these bytes, or of its absence.
-fn printed(alloc: Global, seq: u32, log: &Option<Vec<u8>>) -> Result<Printout, NoMemory>
-    ensures { IfOk result (IsPrintout seq (option_map (λ bytes. bytes.items) log.now)) }
+fn printed(alloc: Global, folded: &Result<Folded, FoldFault>) -> Result<Printout, FoldFault>
+    ensures printout { IfOk result (IsPrintoutOf folded.now) }
+    ensures failed { result ≡ Err FoldFailed → folded.now ≡ Err FoldFailed }
 {
-    let folded = folded_log(alloc, seq, log)?;
-    let text = text_of(alloc, &folded)?;
-    Ok(Printout {
-        status: status_of(&folded.end),
-        text,
-    })
+    match folded {
+        Err(fault) => Err(*fault),
+        Ok(folded) => match text_of(alloc, folded) {
+            Err(NoMemory) => Err(FoldFault::Memory),
+            Ok(text) => Ok(Printout {
+                status: status_of(&folded.end),
+                text,
+            }),
+        },
+    }
 }
 
-/// Folds the log of this sequence and prints its lines.
-pub fn fold<O: Sink, A: Archive>(alloc: Global, seq: u32, out: &mut O, archive: &mut A) -> Status
-    ensures logs { A.logs archive.new ≡ A.logs archive.old }
-    ensures archive_count { A.faults archive.old ≤ A.faults archive.new }
-    ensures sink_count { O.faults out.old ≤ O.faults out.new }
-
+// Writes the lines of a fold, or why there is none.
+fn answer<O: Sink>(out: &mut O, printout: Result<Printout, FoldFault>) -> Status
+    requires ended { IfOk printout (λ p. IsEnd p.status) }
     ensures comes { Comes result }
-    ensures ends { IsEnd result →
-        Told (A.logs archive.old) (λ logs. Prints logs seq result (O.written out.old) (O.written out.new)) }
+    ensures ends { IsEnd result → IsWritten printout result (O.written out.old) (O.written out.new) }
     ensures usage { result ≢ Status.Usage }
     ensures not_built { result ≢ Status.NotBuilt }
-    ensures archive_fault { result ≡ Status.ArchiveFault → Rose (A.faults archive.old) (A.faults archive.new) }
+    ensures archive_fault { result ≡ Status.ArchiveFault → printout ≡ Err FoldFailed }
     ensures sink_rose { result ≡ Status.SinkFault → Rose (O.faults out.old) (O.faults out.new) }
-    ensures sink_fault { result ≡ Status.SinkFault → Told (A.logs archive.old)
-        (λ logs. PrintsPrefix logs seq (O.written out.old) (O.written out.new)) }
+    ensures sink_fault { result ≡ Status.SinkFault → IsPrefixWritten printout (O.written out.old) (O.written out.new) }
     ensures last_line { SaysFault (fault_word result) (O.written out.old) (O.written out.new)
         (Rose (O.faults out.old) (O.faults out.new)) }
+    ensures sink_count { O.faults out.old ≤ O.faults out.new }
 {
-    let log = match fetch(alloc, archive, seq) {
-        Ok(log) => log,
-        Err(FetchFault::Failed) => {
-            refuse(out, b"FAULT ARCHIVE\n");
-            return Status::ArchiveFault;
-        }
-        Err(FetchFault::Memory) => {
-            refuse(out, b"FAULT MEMORY\n");
-            return Status::Memory;
-        }
-    };
-    match printed(alloc, seq, &log) {
+    match printout {
         Ok(Printout { status, text }) => match say(out, &text) {
             Ok(()) => status,
             Err(_) => Status::SinkFault,
         },
-        Err(NoMemory) => {
+        Err(FoldFault::Failed) => {
+            refuse(out, b"FAULT ARCHIVE\n");
+            Status::ArchiveFault
+        }
+        Err(FoldFault::Memory) => {
             refuse(out, b"FAULT MEMORY\n");
             Status::Memory
         }
+    }
+}
+
+/// Folds the log of this sequence and prints its lines.
+pub fn fold<O: Sink, A: Archive>(alloc: Global, seq: u32, out: &mut O, archive: A) -> Finished<A>
+    ensures logs { A.logs result.archive ≡ A.logs archive }
+    ensures archive_count { A.faults archive ≤ A.faults result.archive }
+    ensures sink_count { O.faults out.old ≤ O.faults out.new }
+
+    ensures comes { Comes result.status }
+    ensures ends { IsEnd result.status →
+        Told (A.logs archive) (λ logs. Prints logs seq result.status (O.written out.old) (O.written out.new)) }
+    ensures usage { result.status ≢ Status.Usage }
+    ensures not_built { result.status ≢ Status.NotBuilt }
+    ensures archive_fault { result.status ≡ Status.ArchiveFault → Rose (A.faults archive) (A.faults result.archive) }
+    ensures sink_rose { result.status ≡ Status.SinkFault → Rose (O.faults out.old) (O.faults out.new) }
+    ensures sink_fault { result.status ≡ Status.SinkFault → Told (A.logs archive)
+        (λ logs. PrintsPrefix logs seq (O.written out.old) (O.written out.new)) }
+    ensures last_line { SaysFault (fault_word result.status) (O.written out.old) (O.written out.new)
+        (Rose (O.faults out.old) (O.faults out.new)) }
+{
+    let FoldedLog { folded, archive } = folded_log(alloc, seq, archive);
+    let printout = printed(alloc, &folded);
+    Finished {
+        status: answer(out, printout),
+        archive,
     }
 }

@@ -1,29 +1,39 @@
-//! Folds one log over empty tables: its records go to the reference evaluator one by one.
+//! Folds one log over empty tables: its records go from the reading side to the reference evaluator.
 //!
-//! An absent log is a gap. A refused header is a malformed first record. Else the records come from `cutting` and are
-//! decoded here; the first that doesn't decode ends the redo, and so does what the cutter tells behind the last one.
-ghost use Rattle.std.specs.Prelude.{◌≡◌, ◌≤◌, ◌<◌, ◌+◌, ◌-◌, ◌^◌, [], drop, IfOk, OnOk, Some};
-ghost use Rattle.std.specs.Option.{option_map};
+//! An absent log is a gap, and a refused header a malformed first record. The database is the one that the log's own header
+//! names; the log is then looked at for this database, and registered as the only one.
+ghost use Rattle.std.specs.Prelude.{◌≡◌, ◌≢◌, ◌≤◌, [], ◌∷◌, IfOk, Err};
+ghost use Rattle.rl_ports.specs.Faults.{Told, Rose};
 ghost use Rattle.redo_spec.specs.Fold.{fold_of_redo};
-ghost use Rattle.redo_spec.specs.Redo.{fold_of_log, records_in};
-ghost use Rattle.rl_value.specs.declared.cause.Cause.TheVariants as causes;
-ghost use Rattle.redo_vec.specs.Cutting.{first_record};
-ghost use Rattle.redo_wire.specs.Records.{decoded};
-ghost use Rattle.primary.specs.Progress.{recs_of, end_of};
+ghost use Rattle.redo_spec.specs.Redo.{fold_of_log};
+ghost use Rattle.rl_value.specs.declared.cause.Cause.TheVariants.{Head};
+ghost use Rattle.rl_value.specs.declared.verdict.Stop.TheVariants.{Malformed};
+ghost use Rattle.log_registry.specs.Registered.{IsOf, AreOf, looked};
+ghost use Rattle.log_registry.specs.declared.fault.RegFault.TheVariants.{ArchiveFault as ArchiveFaulted};
+ghost use Rattle.redo_reader.specs.Ahead.{redo_ahead};
 ghost use Rattle.primary.specs.Starts.{IsStart, first_start, shown};
-ghost use Rattle.standby.specs.Folding.{Takes, AreWhole, taken, stop_behind, stop_after, come};
+ghost use Rattle.standby.specs.Folding.{come, IsFoldRefused};
+ghost use Rattle.standby.specs.declared.reading.FoldFault.TheVariants.{Failed as FoldFailed};
 
-use crate::cutting::cut_log;
+use crate::reading::{FoldFault, take_all};
+use log_registry::{LogEntry, RegFault, Registry, inspect, look};
 use primary::laws::{first_fold_is_of_the_redo, the_evaluator_folds};
 use primary::{Evaluator, Folded, Plain};
-use redo_vec::{DecodeFault, decode_record};
-use redo_wire::{Fed, Header, Raw, read_header};
-use rl_value::{Cause, CutFault, NoMemory, Scn, Stop};
-use skip_guard::Skips;
+use redo_reader::laws::the_reader_gives_the_redo;
+use redo_reader::{Place, ReadSide};
+use rl_ports::Archive;
+use rl_value::{Cause, HeadFault, NoMemory, Scn, Stop};
 use std::alloc::Global;
 
-// Bytes of a log's header.
-const HEADER: usize = 40;
+// Where the first record of a log stands: behind the header.
+const FIRST: u64 = 40;
+
+/// What came of a fold, and the archive that was read.
+#[derive(Drop)]
+pub struct FoldedLog<A: Archive> {
+    pub folded: Result<Folded, FoldFault>,
+    pub archive: A,
+}
 
 // An evaluator before the first record of a redo over empty tables.
 fn first_evaluator(alloc: Global, first: u32, base: Scn) -> Result<Evaluator, NoMemory>
@@ -34,119 +44,33 @@ fn first_evaluator(alloc: Global, first: u32, base: Scn) -> Result<Evaluator, No
 }
 
 // The fold of a redo without a record, of which no base is known.
-fn without_records(alloc: Global, seq: u32, stop: Stop) -> Result<Folded, NoMemory>
-    ensures { IfOk result (λ folded. shown folded ≡ fold_of_redo seq 0 [] stop) }
+fn without_records(alloc: Global, seq: u32, stop: Stop) -> Result<Folded, FoldFault>
+    ensures folded { IfOk result (λ folded. shown folded ≡ fold_of_redo seq 0 [] stop) }
+    ensures failed { result ≢ Err FoldFailed }
 {
-    Ok(first_evaluator(alloc, seq, 0)?.finish(stop))
-}
-
-// Hands a record to the evaluator, or says why it doesn't decode.
-fn take_raw(alloc: Global, evaluator: &mut Evaluator, raw: &Raw) -> Result<Option<Cause>, NoMemory>
-    requires whole { first_record raw.now.bytes ≡ Ok (raw.now.bytes, []) }
-    requires numbered { recs_of evaluator.old + 1 < 2 ^ 64 }
-    ensures taken { IfOk result (λ cause. Takes raw.now evaluator.old evaluator.new cause) }
-    ensures number { OnOk result (recs_of evaluator.new ≤ recs_of evaluator.old + 1) }
-{
-    match decode_record(alloc, raw.bytes.bytes()) {
-        Ok(rec) => {
-            evaluator.take(&raw.head, rec, &Skips::new(alloc))?;
-            Ok(None)
-        }
-        Err(DecodeFault::Vector { fault, place }) => Ok(Some(Cause::Vector { fault, place })),
-        Err(DecodeFault::Memory) => Err(NoMemory),
+    match first_evaluator(alloc, seq, 0) {
+        Ok(evaluator) => Ok(evaluator.finish(stop)),
+        Err(NoMemory) => Err(FoldFault::Memory),
     }
 }
 
-fn cut_cause(cause: Option<CutFault>) -> Option<Cause>
-    ensures { result ≡ option_map causes.Cut cause }
+fn bad_header(fault: HeadFault) -> Stop
+    ensures { result ≡ Malformed 1 (Head fault) }
 {
-    match cause {
-        Some(fault) => Some(Cause::Cut(fault)),
-        None => None,
+    Stop::Malformed {
+        rec: 1,
+        cause: Cause::Head(fault),
     }
 }
 
-fn stop_of(count: u64, cause: Option<Cause>) -> Stop
-    requires { count + 1 < 2 ^ 64 }
-    ensures { result ≡ stop_behind count cause }
+// The fold of a log that is refused so.
+fn refused(alloc: Global, seq: u32, fault: RegFault) -> Result<Folded, FoldFault>
+    ensures folded { IfOk result (λ folded. IsFoldRefused seq fault (shown folded)) }
+    ensures failed { result ≡ Err FoldFailed → fault ≡ ArchiveFaulted }
+    ensures none { fault ≡ ArchiveFaulted → result ≡ Err FoldFailed }
 {
-    match cause {
-        Some(cause) => Stop::Malformed {
-            rec: count + 1,
-            cause,
-        },
-        None => Stop::Drained,
-    }
-}
-
-// Hands the records to the evaluator up to the first that doesn't decode, and says what ends them.
-fn take_all(alloc: Global, evaluator: &mut Evaluator, fed: &Fed) -> Result<Stop, NoMemory>
-    requires whole { AreWhole fed.now.raws }
-    requires first { recs_of evaluator.old ≤ 0 }
-    ensures taken { OnOk result (evaluator.new ≡ taken (decoded fed.now.raws fed.now.cause) evaluator.old) }
-    ensures stop { IfOk result (λ stop. stop ≡ stop_after 0 (decoded fed.now.raws fed.now.cause)) }
-{
-    let mut count = 0;
-    let mut rest = fed.raws.items();
-    while let [raw, others @ ..] = rest {
-        if let Some(cause) = take_raw(alloc, evaluator, raw)? {
-            return Ok(stop_of(count, Some(cause)));
-        }
-        count += 1;
-        rest = others;
-    }
-    Ok(stop_of(count, cut_cause(fed.cause)))
-}
-
-// The fold of the log of this sequence with this header, whose bytes behind it are these.
-fn folded_body(alloc: Global, seq: u32, head: Header, body: &[u8]) -> Result<Folded, NoMemory>
-    ensures { IfOk result (λ folded. shown folded ≡ (let r = records_in head head.count body.now in
-        fold_of_redo seq (head.first - 1) r.entries (stop_after 0 r))) }
-{
-    the_evaluator_folds();
-    first_fold_is_of_the_redo();
-    let fed = cut_log(alloc, head, body)?;
-    // A redo follows the SCN before the first of its first log.
-    let mut evaluator = first_evaluator(alloc, seq, head.first.saturating_sub(1))?;
-    let stop = take_all(alloc, &mut evaluator, &fed)?;
-    Ok(evaluator.finish(stop))
-}
-
-// The bytes from this place on.
-fn behind(bytes: &[u8], at: usize) -> &[u8]
-    ensures { result.now ≡ drop at bytes.now }
-{
-    if at < bytes.len() {
-        &bytes[at..]
-    } else {
-        &bytes[bytes.len()..]
-    }
-}
-
-// The fold of a log that is there.
-fn folded_bytes(alloc: Global, seq: u32, bytes: &[u8]) -> Result<Folded, NoMemory>
-    ensures { IfOk result (λ folded. shown folded ≡ fold_of_log seq (Some bytes.now)) }
-{
-    match read_header(bytes, seq) {
-        Ok(head) => folded_body(alloc, seq, head, behind(bytes, HEADER)),
-        Err(fault) => without_records(
-            alloc,
-            seq,
-            Stop::Malformed {
-                rec: 1,
-                cause: Cause::Head(fault),
-            },
-        ),
-    }
-}
-
-/// The fold over empty tables of the log with these bytes, or of its absence.
-pub fn folded_log(alloc: Global, seq: u32, log: &Option<Vec<u8>>) -> Result<Folded, NoMemory>
-    ensures { IfOk result (λ folded. shown folded ≡ fold_of_log seq (option_map (λ bytes. bytes.items) log.now)) }
-{
-    match log {
-        Some(bytes) => folded_bytes(alloc, seq, bytes),
-        None => without_records(
+    match fault {
+        RegFault::NoLog => without_records(
             alloc,
             seq,
             Stop::Gap {
@@ -154,5 +78,115 @@ pub fn folded_log(alloc: Global, seq: u32, log: &Option<Vec<u8>>) -> Result<Fold
                 high: seq,
             },
         ),
+        RegFault::BadHeader(fault) => without_records(alloc, seq, bad_header(fault)),
+        RegFault::WrongDb => without_records(alloc, seq, bad_header(HeadFault::Dbid)),
+        RegFault::ArchiveFault => Err(FoldFault::Failed),
+    }
+}
+
+fn registry_of(alloc: Global, entry: LogEntry) -> Result<Registry, NoMemory>
+    ensures { IfOk result (λ registry. registry ≡ entry ∷ []) }
+{
+    let mut registry = Registry::new(alloc);
+    registry.insert(entry)?;
+    Ok(registry)
+}
+
+// What the reading side gives from here on, folded.
+fn folded_ahead<A: Archive>(alloc: Global, seq: u32, base: Scn, reader: ReadSide<A>) -> FoldedLog<A>
+    requires first { reader.place.rec ≡ 0 }
+    ensures folded { Told (A.logs reader.archive) (λ logs. AreOf logs reader.registry →
+        IfOk result.folded (λ folded. shown folded ≡ (let redo = redo_ahead logs reader.registry reader.place in fold_of_redo seq base redo.entries redo.stop))) }
+    ensures logs { A.logs result.archive ≡ A.logs reader.archive }
+    ensures failed { result.folded ≡ Err FoldFailed → Rose (A.faults reader.archive) (A.faults result.archive) }
+    ensures count { A.faults reader.archive ≤ A.faults result.archive }
+{
+    the_evaluator_folds();
+    first_fold_is_of_the_redo();
+    let mut reader = reader;
+    match first_evaluator(alloc, seq, base) {
+        Err(NoMemory) => FoldedLog {
+            folded: Err(FoldFault::Memory),
+            archive: reader.into_archive(),
+        },
+        Ok(mut evaluator) => match take_all(alloc, &mut evaluator, &mut reader) {
+            Ok(stop) => FoldedLog {
+                folded: Ok(evaluator.finish(stop)),
+                archive: reader.into_archive(),
+            },
+            Err(fault) => FoldedLog {
+                folded: Err(fault),
+                archive: reader.into_archive(),
+            },
+        },
+    }
+}
+
+// The fold of a log that was looked at.
+fn folded_entry<A: Archive>(alloc: Global, entry: LogEntry, archive: A) -> FoldedLog<A>
+    ensures folded { Told (A.logs archive) (λ logs. IsOf logs entry →
+        IfOk result.folded (λ folded. shown folded ≡ fold_of_log entry.head.seq (logs entry.head.seq))) }
+    ensures logs { A.logs result.archive ≡ A.logs archive }
+    ensures failed { result.folded ≡ Err FoldFailed → Rose (A.faults archive) (A.faults result.archive) }
+    ensures count { A.faults archive ≤ A.faults result.archive }
+{
+    the_reader_gives_the_redo();
+    let Ok(registry) = registry_of(alloc, entry) else {
+        return FoldedLog {
+            folded: Err(FoldFault::Memory),
+            archive,
+        };
+    };
+    let place = Place {
+        seq: entry.head.seq,
+        at: FIRST,
+        done: 0,
+        rec: 0,
+    };
+    match ReadSide::new(alloc, archive, registry, place) {
+        Err((NoMemory, archive)) => FoldedLog {
+            folded: Err(FoldFault::Memory),
+            archive,
+        },
+        // A redo follows the SCN before the first of its first log.
+        Ok(reader) => folded_ahead(
+            alloc,
+            entry.head.seq,
+            entry.head.first.saturating_sub(1),
+            reader,
+        ),
+    }
+}
+
+// Looks at a log for the database that its own header names.
+fn seen<A: Archive>(archive: &mut A, seq: u32) -> Result<LogEntry, RegFault>
+    ensures exact { Told (A.logs archive.old) (λ logs. result ≢ Err ArchiveFaulted → result ≡ looked seq (logs seq)) }
+    ensures of { Told (A.logs archive.old) (λ logs. IfOk result (IsOf logs)) }
+    ensures sequence { IfOk result (λ entry. entry.head.seq ≡ seq) }
+    ensures failed { result ≡ Err ArchiveFaulted → Rose (A.faults archive.old) (A.faults archive.new) }
+    ensures count { A.faults archive.old ≤ A.faults archive.new }
+    ensures logs { A.logs archive.new ≡ A.logs archive.old }
+{
+    match look(archive, seq) {
+        Ok(entry) => inspect(archive, seq, entry.head.dbid),
+        Err(fault) => Err(fault),
+    }
+}
+
+/// The fold over empty tables of the log of this sequence, or of its absence.
+pub fn folded_log<A: Archive>(alloc: Global, seq: u32, archive: A) -> FoldedLog<A>
+    ensures folded { Told (A.logs archive) (λ logs.
+        IfOk result.folded (λ folded. shown folded ≡ fold_of_log seq (logs seq))) }
+    ensures logs { A.logs result.archive ≡ A.logs archive }
+    ensures failed { result.folded ≡ Err FoldFailed → Rose (A.faults archive) (A.faults result.archive) }
+    ensures count { A.faults archive ≤ A.faults result.archive }
+{
+    let mut archive = archive;
+    match seen(&mut archive, seq) {
+        Ok(entry) => folded_entry(alloc, entry, archive),
+        Err(fault) => {
+            let folded = refused(alloc, seq, fault);
+            FoldedLog { folded, archive }
+        }
     }
 }

@@ -4,14 +4,14 @@
 #![tactic(auto)]
 
 mod command;
-mod cutting;
 mod ended;
 mod fault_words;
-mod fetch;
+mod finished;
 mod fold;
 mod folding;
 mod output;
 mod printing;
+mod reading;
 mod say;
 mod still;
 #[cfg(test)]

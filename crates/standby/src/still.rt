@@ -11,6 +11,7 @@ ghost use Rattle.standby.specs.Devices.{ComeBack};
 
 use crate::command::Command;
 use crate::ended::Ended;
+use crate::finished::Finished;
 use crate::fold::fold;
 use crate::say::refuse;
 use crate::words::command;
@@ -56,8 +57,7 @@ pub fn sqlapply_still<I: Source, O: Sink, A: Archive, S: Spill, K: Keeper>(
 {
     match command(words) {
         Command::Fold(seq) => {
-            let mut archive = archive;
-            let status = fold(alloc, seq, out, &mut archive);
+            let Finished { status, archive } = fold(alloc, seq, out, archive);
             Ended {
                 status,
                 archive,

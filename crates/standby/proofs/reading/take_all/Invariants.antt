@@ -1,0 +1,24 @@
+use Rattle.std.proofs.Common.{◌≡◌, ◌≤◌, ◌<◌, ◌-◌, ◌^◌}
+use Rattle.rl_ports.specs.Faults.{Told}
+use Rattle.log_registry.specs.Registered.{AreOf}
+use Rattle.redo_reader.specs.Ahead.{redo_ahead}
+use Rattle.primary.specs.Progress.{recs_of}
+use Rattle.standby.specs.Folding.{StepsOn}
+use Rattle.standby.proofs.reading.take_all.Given as goal
+
+-- what is still ahead leads to where all of it did
+abbrev pub invariant-loop-stop : goal.invariant-loop-stop
+invariant-loop-stop g l =
+    let logs = g.A.Archive.logs in
+    let faults = g.A.Archive.faults in
+    record {
+      steps : Told (logs l.fn.reader.archive) (λ known. AreOf known l.fn.reader.registry → StepsOn (redo_ahead known l.fn.reader.registry l.fn.reader.place) (redo_ahead known l.reader.registry l.reader.place) l.fn.evaluator l.evaluator);
+      registry : l.reader.registry ≡ l.fn.reader.registry;
+      same : logs l.reader.archive ≡ logs l.fn.reader.archive;
+      later : faults l.fn.reader.archive ≤ faults l.reader.archive;
+      numbered : recs_of l.evaluator ≤ l.reader.place.rec;
+      room : l.reader.place.rec < 2 ^ 63;
+    }
+
+abbrev pub decreases-loop-stop : goal.decreases-loop-stop
+decreases-loop-stop g l = 2 ^ 63 - l.reader.place.rec
