@@ -1,36 +1,40 @@
-//! The program: does what its words ask, over the files of the current folder and the standard output.
+//! The program: does what its words ask, over the files of the current folder and the standard streams.
 //!
-//! Archived logs are the files `redo/log_<sequence>.srl`. All lines go to the standard output, also those of refusals.
-//! The exit code is the status's. It is 15 too where memory for the words is refused.
-//! Nothing is claimed of what a file or an output holds: these devices tell nothing, and count their failures.
+//! All lines go to the standard output, also those of refusals. The exit code is the status's. It is 15 too where memory for
+//! the words or the devices is refused.
 #![tactic(auto)]
 
-mod archive;
-mod sink;
+#[cfg(test)]
+mod tests;
 mod unused;
 mod words;
 
-use archive::FileArchive;
+use file_ports::{FileArchive, StdSink, StdSource};
 use rl_base::Status;
 use rl_ports::Sink;
-use sink::StdSink;
 use standby::sqlapply_still;
 use std::process::ExitCode;
 use unused::Unused;
 use words::words_of;
 
 fn main(rt: HostRuntime) -> ExitCode {
-    let mut out = StdSink::new(&rt);
-    let Ok(words) = words_of(&rt, rt.alloc()) else {
+    let Ok(mut out) = StdSink::new(&rt) else {
+        return ExitCode::from(Status::Memory.code());
+    };
+    let (Ok(words), Ok(mut input), Ok(archive)) = (
+        words_of(&rt, rt.alloc()),
+        StdSource::new(&rt),
+        FileArchive::new(&rt),
+    ) else {
         let _ = out.write(b"FAULT MEMORY\n");
         return ExitCode::from(Status::Memory.code());
     };
     let ended = sqlapply_still(
         rt.alloc(),
         &words,
-        &mut Unused,
+        &mut input,
         &mut out,
-        FileArchive::new(&rt),
+        archive,
         Unused,
         Unused,
     );

@@ -1,23 +1,13 @@
-//! The source, the spill store and the keeper of a program whose commands call none of them yet.
+//! The spill store and the keeper of a program whose commands call neither of them yet.
 //!
-//! They stand for the standard input, files in `spill` and the durable store, which come with the commands that call them.
+//! They stand for files in `spill` and the durable store, which come with the commands that call them.
 ghost use Rattle.std.specs.Prelude.{None, false, refl};
 
-use rl_ports::{Batch, Failed, Keeper, Pair, PortFault, Source, Spill};
+use rl_ports::{Batch, Failed, Keeper, Pair, PortFault, Spill};
 
-/// An empty source, and stores that take nothing for want of memory.
+/// Stores that take nothing for want of memory.
 #[derive(Drop)]
 pub struct Unused;
-
-impl Source for Unused {
-    ghost left = { λ _. None };
-
-    ghost faults = { λ _. 0 };
-
-    fn read(&mut self, _into: &mut [u8]) -> Result<usize, Failed> {
-        Ok(0)
-    }
-}
 
 impl Spill for Unused {
     ghost tells = { false };
