@@ -1,10 +1,12 @@
 //! Writes logs to be timed, each as one file of the archived form (docs/FORMATS.md), over the table HR.EMP.
 //!
 //!     generate usual TRANSACTIONS FILE      START, four changes and COMMIT for each, a record for each vector
+//!     generate unique TRANSACTIONS FILE     the same, with NAME as a unique key that each UPDATE sets too
 //!     generate together CHANGES FILE        one transaction of so many changes, a record for each vector
+//!     generate updates TRANSACTIONS FILE    1,000 rows, and then START, four updates of them and COMMIT for each, a record for each vector
 //!     generate wide RECORDS FILE            records of 65,536 bytes, each with 255 INSERTs; to be decoded alone, not to be folded
 //!
-//! The same words give the same bytes. Logs of `usual` and `together` are lawful: each change fits the rows before it.
+//! The same words give the same bytes. Logs of `usual`, `unique`, `together` and `updates` are lawful: each change fits the rows before it.
 
 use std::collections::HashMap;
 
@@ -31,11 +33,13 @@ struct Xid {
     sqn: u32,
 }
 
-/// A log as it grows: its bytes behind the header, how many records they are, and the SCN of the last one.
+/// A log as it grows: its bytes behind the header, how many records they are, the SCN of the last one, and whether NAME is
+/// a unique key.
 struct Log {
     bytes: Vec<u8>,
     count: u32,
     scn: u64,
+    unique: bool,
 }
 
 fn put_value(out: &mut Vec<u8>, value: &Value) {
@@ -88,8 +92,9 @@ fn put_insert(out: &mut Vec<u8>, xid: Xid, row: &Row) {
     put_change(out, 2, xid, (row, NONE), (row, ALL));
 }
 
-fn put_update(out: &mut Vec<u8>, xid: Xid, old: &Row, new: &Row) {
-    put_change(out, 3, xid, (old, &[ID, PAY, NOTE]), (new, &[PAY, NOTE]));
+fn put_update(out: &mut Vec<u8>, xid: Xid, old: &Row, new: &Row, set: &[u8]) {
+    let logged: Vec<u8> = [ID].iter().chain(set).copied().collect();
+    put_change(out, 3, xid, (old, &logged), (new, set));
 }
 
 fn put_delete(out: &mut Vec<u8>, xid: Xid, row: &Row) {
@@ -98,7 +103,26 @@ fn put_delete(out: &mut Vec<u8>, xid: Xid, row: &Row) {
 
 impl Log {
     fn new() -> Log {
-        Log { bytes: vec![0; HEADER], count: 0, scn: 0 }
+        Log { bytes: vec![0; HEADER], count: 0, scn: 0, unique: false }
+    }
+
+    /// A log with NAME as a unique key.
+    fn with_unique() -> Log {
+        Log { unique: true, ..Log::new() }
+    }
+
+    /// The columns that an UPDATE sets.
+    fn set(&self) -> &'static [u8] {
+        if self.unique { &[NAME, PAY, NOTE] } else { &[PAY, NOTE] }
+    }
+
+    /// A row of this id after so many updates; what it holds follows from the two alone.
+    fn row_of(&self, id: i64, times: u32) -> Row {
+        let mut row = row_of(id, times);
+        if self.unique {
+            row[NAME as usize] = Value::Text(format!("EMPLOYEE {id} {times}").into_bytes());
+        }
+        row
     }
 
     /// One more record of so many vectors, at the next SCN.
@@ -117,6 +141,7 @@ impl Log {
     /// The dictionary: HR.EMP with ID and PAY, numbers, NAME and NOTE, texts of up to 30 and 300 bytes; ID is the
     /// primary key. PAY and NOTE may be Null.
     fn dictionary(&mut self) {
+        let keys: &[u8] = if self.unique { &[1, ID, 1, 1, NAME] } else { &[1, ID, 0] };
         self.record(2, |out| {
             out.push(8);
             out.extend_from_slice(&1u32.to_be_bytes());
@@ -131,7 +156,7 @@ impl Log {
                 out.extend_from_slice(&size.to_be_bytes());
                 out.push(nullable);
             }
-            out.extend_from_slice(&[1, ID, 0]);
+            out.extend_from_slice(keys);
             out.push(9);
         });
     }
@@ -181,22 +206,24 @@ fn change(log: &mut Log, rows: &mut Rows, xid: Xid, number: u64) {
 
 fn insert(log: &mut Log, rows: &mut Rows, xid: Xid, id: i64) {
     rows.insert(id, 0);
-    log.record(1, |out| put_insert(out, xid, &row_of(id, 0)));
+    let row = log.row_of(id, 0);
+    log.record(1, |out| put_insert(out, xid, &row));
 }
 
 fn update(log: &mut Log, rows: &mut Rows, xid: Xid, id: i64) {
     let times = rows.get_mut(&id).expect("a row that was put");
     *times += 1;
-    log.record(1, |out| put_update(out, xid, &row_of(id, *times - 1), &row_of(id, *times)));
+    let (old, new, set) = (log.row_of(id, *times - 1), log.row_of(id, *times), log.set());
+    log.record(1, |out| put_update(out, xid, &old, &new, set));
 }
 
 fn delete(log: &mut Log, rows: &mut Rows, xid: Xid, id: i64) {
     let times = rows.remove(&id).expect("a row that was put");
-    log.record(1, |out| put_delete(out, xid, &row_of(id, times)));
+    let row = log.row_of(id, times);
+    log.record(1, |out| put_delete(out, xid, &row));
 }
 
-fn usual(transactions: u32) -> Vec<u8> {
-    let mut log = Log::new();
+fn usual(mut log: Log, transactions: u32) -> Vec<u8> {
     let mut rows = Rows::new();
     log.dictionary();
     for number in 0..transactions {
@@ -223,6 +250,28 @@ fn together(changes: u32) -> Vec<u8> {
     log.finish()
 }
 
+fn updates(transactions: u32) -> Vec<u8> {
+    const ROWS: u64 = 1000;
+    let mut log = Log::new();
+    let mut rows = Rows::new();
+    let first = Xid { usn: 2, slot: 1, sqn: 1 };
+    log.dictionary();
+    log.plain(1, first);
+    for id in 0..ROWS {
+        insert(&mut log, &mut rows, first, id as i64);
+    }
+    log.plain(6, first);
+    for number in 0..transactions {
+        let xid = Xid { usn: 1, slot: (number % 64) as u16, sqn: 1 + number / 64 };
+        log.plain(1, xid);
+        for place in 0..4 {
+            update(&mut log, &mut rows, xid, ((4 * number as u64 + place) * 7919 % ROWS) as i64);
+        }
+        log.plain(6, xid);
+    }
+    log.finish()
+}
+
 fn wide(records: u32) -> Vec<u8> {
     let mut log = Log::new();
     let xid = Xid { usn: 1, slot: 1, sqn: 1 };
@@ -246,14 +295,16 @@ fn wide(records: u32) -> Vec<u8> {
 fn main() {
     let words: Vec<String> = std::env::args().skip(1).collect();
     let [what, count, file] = &words[..] else {
-        panic!("generate usual|together|wide COUNT FILE");
+        panic!("generate usual|unique|together|updates|wide COUNT FILE");
     };
     let count: u32 = count.parse().expect("a count");
     let bytes = match what.as_str() {
-        "usual" => usual(count),
+        "usual" => usual(Log::new(), count),
+        "unique" => usual(Log::with_unique(), count),
         "together" => together(count),
+        "updates" => updates(count),
         "wide" => wide(count),
-        _ => panic!("usual, together or wide"),
+        _ => panic!("usual, unique, together, updates or wide"),
     };
     std::fs::write(file, bytes).expect("the file is written");
 }
