@@ -1,0 +1,297 @@
+//! Runs the program over hostile logs, words and devices, and tests each run's end: a status of the README's table, and its line.
+//!
+//!     hostile PROGRAM FOLDER      FOLDER is a scratch folder
+//!
+//! Over each of two logs: every cut, every change of one byte, and a byte more. Then words, things in a log's place, and outputs
+//! that take nothing. It prints how many runs each part had, and ends with 1 at the first run that ends otherwise.
+
+use std::collections::BTreeMap;
+use std::fs::{self, File};
+use std::os::unix::fs::PermissionsExt;
+use std::os::unix::process::ExitStatusExt;
+use std::path::{Path, PathBuf};
+use std::process::{Command, Output, Stdio};
+use std::sync::atomic::{AtomicUsize, Ordering};
+use std::sync::Mutex;
+use std::thread;
+
+/// A log as it grows.
+struct Log {
+    bytes: Vec<u8>,
+    count: u32,
+    scn: u64,
+}
+
+impl Log {
+    fn new() -> Log {
+        Log { bytes: vec![0; 40], count: 0, scn: 99 }
+    }
+
+    fn record(&mut self, vectors: &[Vec<u8>]) {
+        self.scn += 1;
+        self.count += 1;
+        let body: Vec<u8> = vectors.concat();
+        self.bytes.extend_from_slice(&(14 + body.len() as u32).to_be_bytes());
+        self.bytes.extend_from_slice(&self.scn.to_be_bytes());
+        self.bytes.extend_from_slice(&(vectors.len() as u16).to_be_bytes());
+        self.bytes.extend_from_slice(&body);
+    }
+
+    fn finish(mut self) -> Vec<u8> {
+        self.bytes[..8].copy_from_slice(b"SRL1\0\x01\0\x01");
+        self.bytes[8..12].copy_from_slice(&9u32.to_be_bytes());
+        self.bytes[12..16].copy_from_slice(&1u32.to_be_bytes());
+        self.bytes[16..24].copy_from_slice(&100u64.to_be_bytes());
+        self.bytes[24..32].copy_from_slice(&(self.scn + 1).to_be_bytes());
+        self.bytes[32..36].copy_from_slice(&self.count.to_be_bytes());
+        self.bytes
+    }
+}
+
+/// A vector of this kind of the transaction 1.1.`sqn`.
+fn of_transaction(kind: u8, sqn: u32, rest: &[u8]) -> Vec<u8> {
+    let mut out = vec![kind, 0, 1, 0, 1];
+    out.extend_from_slice(&sqn.to_be_bytes());
+    out.extend_from_slice(rest);
+    out
+}
+
+/// A change of table 1, by its cells before and after.
+fn change(kind: u8, sqn: u32, old: &[u8], new: &[u8]) -> Vec<u8> {
+    of_transaction(kind, sqn, &[&[0, 0, 0, 1], old, new].concat())
+}
+
+fn number(column: u8, value: i64) -> Vec<u8> {
+    [&[column, 1][..], &value.to_be_bytes()].concat()
+}
+
+fn text(column: u8, tag: u8, value: &[u8]) -> Vec<u8> {
+    [&[column, tag][..], &(value.len() as u16).to_be_bytes(), value].concat()
+}
+
+fn cells(parts: &[Vec<u8>]) -> Vec<u8> {
+    [&[parts.len() as u8][..], &parts.concat()].concat()
+}
+
+/// T.A of one number column: a transaction inserts 7.
+fn first() -> Vec<u8> {
+    let mut log = Log::new();
+    log.record(&[vec![8, 0, 0, 0, 1, 1, b'T', 1, b'A', 1, 2, b'I', b'D', 1, 0, 0, 0, 1, 0, 0], vec![9]]);
+    log.record(&[of_transaction(1, 3, &[]), change(2, 3, &[0], &cells(&[number(0, 7)]))]);
+    log.record(&[of_transaction(6, 3, &[])]);
+    log.finish()
+}
+
+/// HR.EMP with ID, NAME, EMAIL (unique) and BODY: each kind of vector, and each kind of value.
+fn all_kinds() -> Vec<u8> {
+    let mut table = vec![8, 0, 0, 0, 1, 2, b'H', b'R', 3, b'E', b'M', b'P', 4];
+    for (name, kind, size, nullable) in [(&b"ID"[..], 1u8, 0u16, 0u8), (b"NAME", 2, 30, 1), (b"EMAIL", 2, 30, 1), (b"BODY", 3, 40, 1)] {
+        table.push(name.len() as u8);
+        table.extend_from_slice(name);
+        table.push(kind);
+        table.extend_from_slice(&size.to_be_bytes());
+        table.push(nullable);
+    }
+    table.extend_from_slice(&[1, 0, 1, 1, 2]);
+    let row = |id: i64, email: &[u8]| cells(&[number(0, id), text(1, 2, b"Ann"), text(2, 2, email), text(3, 3, &[0, 255])]);
+    let mut log = Log::new();
+    log.record(&[table, vec![9]]);
+    log.record(&[of_transaction(1, 1, &[]), change(2, 1, &[0], &row(1, b"a@x")), change(2, 1, &[0], &row(2, b"b@x"))]);
+    log.record(&[change(2, 1, &[0], &row(3, b"c@x")), of_transaction(5, 1, &[])]);
+    log.record(&[of_transaction(6, 1, &[])]);
+    log.record(&[of_transaction(1, 2, &[])]);
+    let old = cells(&[number(0, 1), text(2, 2, b"a@x")]);
+    let new = cells(&[text(2, 2, b"d@x")]);
+    log.record(&[change(3, 2, &old, &new), change(4, 2, &row(2, b"b@x"), &[0])]);
+    log.record(&[of_transaction(1, 3, &[]), change(2, 3, &[0], &cells(&[number(0, 4), vec![1, 0], vec![2, 0], vec![3, 0]]))]);
+    log.record(&[of_transaction(7, 3, &[])]);
+    log.record(&[of_transaction(6, 2, &[])]);
+    log.finish()
+}
+
+/// Why this end is none of the table, if it is none.
+fn fault_of(output: &Output) -> Option<String> {
+    let Some(code) = output.status.code() else {
+        return Some(format!("killed by signal {:?}", output.status.signal()));
+    };
+    let text = String::from_utf8_lossy(&output.stdout).into_owned();
+    let last = text.lines().last().unwrap_or("");
+    if !text.is_empty() && !text.ends_with('\n') {
+        return Some(format!("status {code}, and a last line without its end: {last:?}"));
+    }
+    let word = |n: usize| last.split(' ').nth(n).unwrap_or("");
+    let fits = match code {
+        0 => word(0) == "END" && word(3) == "DRAINED",
+        2 => last == "FAULT USAGE",
+        3 => last == "FAULT ARCHIVE",
+        8 => word(0) == "END" && word(3) == "GAP",
+        9 => word(0) == "END" && word(3) == "MALFORMED",
+        10 => word(0) == "END" && word(3) == "MISMATCH",
+        14 => word(0) == "END" && word(3) == "ROWLIMIT",
+        15 => last == "FAULT MEMORY",
+        17 => last == "FAULT NOTBUILT",
+        _ => false,
+    };
+    if fits && output.stderr.is_empty() { None } else { Some(format!("status {code}, last line {last:?}, {} bytes of errors", output.stderr.len())) }
+}
+
+/// A worker's own folder with `redo/` in it.
+fn room(folder: &Path, name: usize) -> PathBuf {
+    let room = folder.join(format!("room_{name}"));
+    fs::create_dir_all(room.join("redo")).expect("a folder");
+    room
+}
+
+fn run(program: &Path, room: &Path, words: &[&str]) -> Output {
+    Command::new(program).args(words).current_dir(room).stdin(Stdio::null()).output().expect("the program runs")
+}
+
+/// The hostile forms of a log, by number.
+fn form(log: &[u8], number: usize) -> Option<Vec<u8>> {
+    let size = log.len();
+    if number < size {
+        return Some(log[..number].to_vec());
+    }
+    let number = number - size;
+    if number < 255 * size {
+        let mut bytes = log.to_vec();
+        bytes[number / 255] ^= (number % 255) as u8 + 1;
+        return Some(bytes);
+    }
+    if number - 255 * size < 256 {
+        return Some([log, &[(number - 255 * size) as u8]].concat());
+    }
+    None
+}
+
+/// Runs all forms of a log, side by side; gives how often each status came.
+fn logs(program: &Path, folder: &Path, log: &[u8]) -> Result<BTreeMap<i32, usize>, String> {
+    let next = AtomicUsize::new(0);
+    let told: Mutex<Result<BTreeMap<i32, usize>, String>> = Mutex::new(Ok(BTreeMap::new()));
+    thread::scope(|scope| {
+        for worker in 0..thread::available_parallelism().map_or(1, |n| n.get()) {
+            let (next, told) = (&next, &told);
+            scope.spawn(move || {
+                let room = room(folder, worker);
+                while told.lock().expect("no worker fails").is_ok() {
+                    let number = next.fetch_add(1, Ordering::Relaxed);
+                    let Some(bytes) = form(log, number) else { return };
+                    fs::write(room.join("redo/log_1.srl"), bytes).expect("a log");
+                    let output = run(program, &room, &["fold", "1"]);
+                    let mut told = told.lock().expect("no worker fails");
+                    if let Some(fault) = fault_of(&output) {
+                        *told = Err(format!("form {number}: {fault}"));
+                    } else if let Ok(counts) = told.as_mut() {
+                        *counts.entry(output.status.code().unwrap_or(-1)).or_insert(0) += 1;
+                    }
+                }
+            });
+        }
+    });
+    told.into_inner().expect("no worker fails")
+}
+
+fn expect(what: &str, output: &Output, code: i32) -> Result<(), String> {
+    if let Some(fault) = fault_of(output) {
+        return Err(format!("{what}: {fault}"));
+    }
+    if output.status.code() == Some(code) { Ok(()) } else { Err(format!("{what}: status {:?} in place of {code}", output.status.code())) }
+}
+
+/// Words that are no command, and some that are.
+fn words(program: &Path, folder: &Path) -> Result<usize, String> {
+    let room = room(folder, 0);
+    fs::write(room.join("redo/log_1.srl"), first()).expect("a log");
+    let long = "9".repeat(100_000);
+    let cases: [(&[&str], i32); 24] = [
+        (&[], 2), (&[""], 2), (&["fold"], 2), (&["fold", ""], 2), (&["fold", "0"], 2), (&["fold", "01"], 2), (&["fold", "+1"], 2),
+        (&["fold", "-1"], 2), (&["fold", "1 "], 2), (&["fold", "4294967296"], 2), (&["fold", &long], 2), (&["fold", "1", "1"], 2),
+        (&["FOLD", "1"], 2), (&["fold", "\u{661}"], 2), (&["fold", "0x1"], 2), (&["fold", "1e0"], 2), (&["--help"], 2), (&["--version"], 2),
+        (&["fold", "1"], 0), (&["fold", "2"], 8), (&["fold", "4294967295"], 8), (&["run"], 17), (&["mine", "1", "1"], 17), (&["load", "x"], 17),
+    ];
+    for (words, code) in cases {
+        expect(&format!("words {:?}", words.iter().map(|w| &w[..w.len().min(20)]).collect::<Vec<_>>()), &run(program, &room, words), code)?;
+    }
+    Ok(cases.len())
+}
+
+/// Things in a log's place that are none, and outputs that take nothing.
+fn devices(program: &Path, folder: &Path) -> Result<usize, String> {
+    let room = room(folder, 0);
+    let path = room.join("redo/log_1.srl");
+    fs::remove_file(&path).expect("a log");
+    fs::create_dir(&path).expect("a folder");
+    expect("a folder in a log's place", &run(program, &room, &["fold", "1"]), 3)?;
+    fs::remove_dir(&path).expect("a folder");
+    std::os::unix::fs::symlink("nowhere", &path).expect("a link");
+    expect("a link that leads nowhere", &run(program, &room, &["fold", "1"]), 8)?;
+    fs::remove_file(&path).expect("a link");
+    std::os::unix::fs::symlink("log_1.srl", &path).expect("a link");
+    expect("a link to itself", &run(program, &room, &["fold", "1"]), 3)?;
+    fs::remove_file(&path).expect("a link");
+    std::os::unix::fs::symlink("/dev/zero", &path).expect("a link");
+    expect("a device in a log's place", &run(program, &room, &["fold", "1"]), 3)?;
+    fs::remove_file(&path).expect("a link");
+    File::create(&path).and_then(|file| file.set_len(1 << 40)).expect("a file with a hole");
+    expect("a hole of 2^40 bytes", &run(program, &room, &["fold", "1"]), 9)?;
+    let mut log = first();
+    fs::write(&path, &log).expect("a log");
+    File::options().write(true).open(&path).and_then(|file| file.set_len(1 << 40)).expect("a log with a hole");
+    expect("a log with a hole of 2^40 bytes behind it", &run(program, &room, &["fold", "1"]), 9)?;
+    log[32..36].copy_from_slice(&u32::MAX.to_be_bytes());
+    fs::write(&path, &log).expect("a log");
+    expect("a count of 2^32 - 1 records", &run(program, &room, &["fold", "1"]), 9)?;
+    fs::write(&path, first()).expect("a log");
+    fs::set_permissions(&path, fs::Permissions::from_mode(0)).expect("permissions");
+    let output = run(program, &room, &["fold", "1"]);
+    if fs::read(&path).is_err() {
+        expect("a log that may not be read", &output, 3)?;
+    }
+    fs::set_permissions(&path, fs::Permissions::from_mode(0o644)).expect("permissions");
+    for full in ["/dev/full"] {
+        let out = File::options().write(true).open(full).expect("a full device");
+        let status = Command::new(program).args(["fold", "1"]).current_dir(&room).stdin(Stdio::null()).stdout(out).status().expect("the program runs");
+        if status.code() != Some(5) {
+            return Err(format!("an output that is full: status {status:?}"));
+        }
+    }
+    let closed = Command::new("sh").args(["-c", "exec \"$0\" fold 1 >&-"]).arg(program).current_dir(&room).status().expect("the program runs");
+    if !matches!(closed.code(), Some(5 | 0)) {
+        return Err(format!("an output that is closed: status {closed:?}"));
+    }
+    let gone = Command::new("sh").args(["-c", "\"$0\" fold 1 | true; exit 0"]).arg(program).current_dir(&room).status().expect("the program runs");
+    if !gone.success() {
+        return Err(format!("an output that nobody reads: {gone:?}"));
+    }
+    fs::remove_file(&path).expect("a log");
+    fs::remove_dir(room.join("redo")).expect("a folder");
+    expect("no folder", &run(program, &room, &["fold", "1"]), 8)?;
+    File::create(room.join("redo")).expect("a file");
+    let output = run(program, &room, &["fold", "1"]);
+    match fault_of(&output) {
+        None => Ok(13),
+        Some(fault) => Err(format!("a file in the folder's place: {fault}")),
+    }
+}
+
+fn main() {
+    let args: Vec<PathBuf> = std::env::args_os().skip(1).map(PathBuf::from).collect();
+    let [program, folder] = &args[..] else {
+        panic!("hostile PROGRAM FOLDER");
+    };
+    let all = || -> Result<(), String> {
+        for (name, log) in [("the first log", first()), ("a log of all kinds", all_kinds())] {
+            let counts = logs(program, folder, &log)?;
+            let runs: usize = counts.values().sum();
+            let told: Vec<String> = counts.iter().map(|(code, count)| format!("{count} with status {code}")).collect();
+            println!("{name}, {} bytes: {runs} runs: {}", log.len(), told.join(", "));
+        }
+        println!("words: {} runs", words(program, folder)?);
+        println!("devices: {} runs", devices(program, folder)?);
+        Ok(())
+    };
+    if let Err(fault) = all() {
+        println!("{fault}");
+        std::process::exit(1);
+    }
+}
