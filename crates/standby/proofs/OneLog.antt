@@ -44,8 +44,8 @@ fold-of_ends : Folds → FoldsFirst → (seq base : ℕ) (redo : Redo) (old new 
     old ≡ come seq base [] → IsStart (first_start seq base) → EndsAs redo old new stop → f ≡ end_of stop new → f ≡ fold_of_redo seq base redo.entries redo.stop
 fold-of_ends folds folds_first seq base redo old new stop f begun fits ends last =
     last
-    ∙ ap (λ (s : Stop). end_of s new) ends.stop_is
-    ∙ ap (end_of redo.stop) (ends.taken ∙ ap (λ (p : Progress). taken redo p) begun)
+    ∙ ends
+    ∙ ap (λ (p : Progress). end_of redo.stop (taken redo p)) begun
     ∙ folds (first_start seq base) [] redo.entries redo.stop fits
     ∙ folds_first seq base redo.entries redo.stop
 

@@ -1,10 +1,9 @@
 -- The records of a redo handed to the evaluator one by one, and what then ends it.
-use Rattle.std.specs.Prelude.{ℕ, ◌≡◌, List, [], Option, Some, None, Result, Ok, Err}
-use Rattle.rl_value.specs.declared.cause.Cause.{Cause}
+use Rattle.std.specs.Prelude.{ℕ, ◌≡◌, List, [], false, Option, Some, None, Result, Ok, Err}
 use Rattle.rl_value.specs.declared.cause.Cause.TheVariants.{Head, Vector}
 use Rattle.rl_value.specs.declared.cause.HeadFault.TheVariants.{Dbid}
 use Rattle.rl_value.specs.declared.verdict.Stop.{Stop}
-use Rattle.rl_value.specs.declared.verdict.Stop.TheVariants.{Gap, Malformed}
+use Rattle.rl_value.specs.declared.verdict.Stop.TheVariants.{Drained, Gap, Malformed}
 use Rattle.redo_vec.specs.declared.redo_rec.RedoRec.{RedoRec}
 use Rattle.redo_vec.specs.Reading.{Fault, record_at}
 use Rattle.redo_spec.specs.declared.header.Header.{Header}
@@ -16,9 +15,11 @@ use Rattle.log_registry.specs.declared.fault.RegFault.{RegFault}
 use Rattle.log_registry.specs.declared.fault.RegFault.TheVariants as refusals
 use Rattle.redo_reader.specs.declared.cut.CutError.{CutError}
 use Rattle.redo_reader.specs.declared.cut.CutError.TheVariants as cuts
-use Rattle.primary.specs.Progress.{Progress, after_record, after_records}
+use Rattle.primary.specs.Progress.{Progress, is_going, after_record, after_records, end_of}
 use Rattle.primary.specs.Starts.{after, first_start}
 use Rattle.standby.specs.declared.reading.FoldFault.{FoldFault}
+use Rattle.standby.specs.declared.reading.Took.{Took}
+use Rattle.standby.specs.declared.reading.Took.TheVariants as tooks
 use Rattle.standby.specs.declared.reading.FoldFault.TheVariants as faults
 
 -- how far the evaluator has come with these entries of a redo over empty tables, whose first log has this sequence and
@@ -27,17 +28,26 @@ abbrev pub come : ℕ → ℕ → List Entry → Progress
 come first base entries = after (first_start first base) [] entries
 
 -- a record that decodes goes to the evaluator, and of another the evaluator sees nothing
-abbrev pub TakesIfDecoded : Header → Result RedoRec Fault → Progress → Progress → Option Cause → Type 0
-TakesIfDecoded h (Ok r) old new cause = (new ≡ after_record [] (h, r) old) × (cause ≡ None)
-TakesIfDecoded h (Err f) old new cause = (new ≡ old) × (cause ≡ Some (Vector f.fault f.place))
+abbrev pub TakesIfDecoded : Header → Result RedoRec Fault → Progress → Progress → Took → Type 0
+TakesIfDecoded h (Ok r) old new tooks.On = new ≡ after_record [] (h, r) old
+TakesIfDecoded h (Ok r) old new tooks.Ended = (new ≡ after_record [] (h, r) old) × (is_going new ≡ false)
+TakesIfDecoded h (Ok r) old new (tooks.Undecoded cause) = ⊥
+TakesIfDecoded h (Err f) old new tooks.On = ⊥
+TakesIfDecoded h (Err f) old new tooks.Ended = ⊥
+TakesIfDecoded h (Err f) old new (tooks.Undecoded cause) = (new ≡ old) × (cause ≡ Vector f.fault f.place)
 
-abbrev pub Takes : Raw → Progress → Progress → Option Cause → Type 0
-Takes raw old new cause = TakesIfDecoded raw.head (record_at raw.bytes) old new cause
+abbrev pub Takes : Raw → Progress → Progress → Took → Type 0
+Takes raw old new took = TakesIfDecoded raw.head (record_at raw.bytes) old new took
 
--- the evaluator took the records of this redo, which ends so
-pub record EndsAs (redo : Redo) (old new : Progress) (stop : Stop) : Type 0 where
-  pub stop_is : stop ≡ redo.stop
-  pub taken : new ≡ after_records [] redo.entries old
+-- what ends the redo with the record of this number; of a fold that has ended before, any end will do
+abbrev pub stop_behind : ℕ → Took → Option Stop
+stop_behind rec tooks.On = None
+stop_behind rec tooks.Ended = Some Drained
+stop_behind rec (tooks.Undecoded cause) = Some (Malformed rec cause)
+
+-- with this end the fold is that of all records of the redo and of its end
+abbrev pub EndsAs : Redo → Progress → Progress → Stop → Type 0
+EndsAs redo old new stop = end_of stop new ≡ end_of redo.stop (after_records [] redo.entries old)
 
 -- with what is still ahead the evaluator comes as far as it did with what was ahead, and the redo ends alike
 pub record StepsOn (before now : Redo) (old new : Progress) : Type 0 where

@@ -1,16 +1,15 @@
 //! Hands the records of the redo to the evaluator one by one, as the reading side cuts them.
 //!
-//! A record that doesn't decode ends the redo, and so does what the reading side tells behind the last one. No more of a
-//! log is held than the block that is read, and the records that it completes.
+//! A record that doesn't decode ends the redo, and so does what the reading side tells behind the last one. Where the fold
+//! has ended before, by a bad record, a miss or the row limit, no more is read. No more of a log is held than the block that
+//! is read, and the records that it completes.
 ghost use Rattle.std.specs.Prelude.{◌≡◌, ◌≤◌, ◌<◌, ◌+◌, ◌^◌, [], IfOk, OnOk, Err, None, Ok};
-ghost use Rattle.std.specs.Option.{option_map};
-ghost use Rattle.rl_value.specs.declared.verdict.Stop.TheVariants.{Malformed};
 ghost use Rattle.rl_ports.specs.Faults.{Told, Rose};
 ghost use Rattle.redo_vec.specs.Cutting.{first_record};
 ghost use Rattle.log_registry.specs.Registered.{AreOf};
 ghost use Rattle.redo_reader.specs.Ahead.{redo_ahead};
 ghost use Rattle.primary.specs.Progress.{recs_of};
-ghost use Rattle.standby.specs.Folding.{Takes, Steps, EndsAs};
+ghost use Rattle.standby.specs.Folding.{Takes, Steps, EndsAs, stop_behind};
 ghost use Rattle.standby.specs.declared.reading.FoldFault.TheVariants.{Failed as FoldFailed};
 
 use primary::Evaluator;
@@ -55,30 +54,46 @@ impl From<CutError> for FoldFault {
     }
 }
 
-// Hands a record to the evaluator, or says why it doesn't decode.
-fn take_raw(alloc: Global, evaluator: &mut Evaluator, raw: &Raw) -> Result<Option<Cause>, NoMemory>
+/// What became of a record.
+#[derive(Drop)]
+pub enum Took {
+    /// The evaluator took it, and goes on.
+    On,
+    /// With it the evaluator has ended: no later record changes the fold.
+    Ended,
+    /// It doesn't decode, and the evaluator saw nothing of it.
+    Undecoded(Cause),
+}
+
+// Hands a record to the evaluator, if it decodes.
+fn take_raw(alloc: Global, evaluator: &mut Evaluator, raw: &Raw) -> Result<Took, NoMemory>
     requires whole { first_record raw.now.bytes ≡ Ok (raw.now.bytes, []) }
     requires numbered { recs_of evaluator.old + 1 < 2 ^ 64 }
-    ensures taken { IfOk result (λ cause. Takes raw.now evaluator.old evaluator.new cause) }
+    ensures taken { IfOk result (λ took. Takes raw.now evaluator.old evaluator.new took) }
     ensures number { OnOk result (recs_of evaluator.new ≤ recs_of evaluator.old + 1) }
 {
     match decode_record(alloc, raw.bytes.bytes()) {
         Ok(rec) => {
-            evaluator.take(&raw.head, rec, &Skips::new(alloc))?;
-            Ok(None)
+            if evaluator.take(&raw.head, rec, &Skips::new(alloc))? {
+                return Ok(Took::On);
+            }
+            Ok(Took::Ended)
         }
-        Err(DecodeFault::Vector { fault, place }) => Ok(Some(Cause::Vector { fault, place })),
+        Err(DecodeFault::Vector { fault, place }) => {
+            Ok(Took::Undecoded(Cause::Vector { fault, place }))
+        }
         Err(DecodeFault::Memory) => Err(NoMemory),
     }
 }
 
-// The redo ends with the record of this number, where it has a cause.
-fn stop_with(rec: u64, cause: Option<Cause>) -> Option<Stop>
-    ensures { result ≡ option_map (Malformed rec) cause }
+// What ends the redo with the record of this number, if it ends there. Of a fold that has ended it says nothing more.
+fn stop_with(rec: u64, took: Took) -> Option<Stop>
+    ensures { result ≡ stop_behind rec took }
 {
-    match cause {
-        Some(cause) => Some(Stop::Malformed { rec, cause }),
-        None => None,
+    match took {
+        Took::On => None,
+        Took::Ended => Some(Stop::Drained),
+        Took::Undecoded(cause) => Some(Stop::Malformed { rec, cause }),
     }
 }
 
@@ -103,13 +118,15 @@ fn take_next<A: Archive>(
     match reader.cut()? {
         Cut::End(stop) => Ok(Some(stop)),
         Cut::Raw(raw) => {
-            let cause = take_raw(alloc, evaluator, &raw)?;
-            Ok(stop_with(raw.rec, cause))
+            let took = take_raw(alloc, evaluator, &raw)?;
+            let stop = stop_with(raw.rec, took);
+            Ok(stop)
         }
     }
 }
 
-/// Hands the records that are ahead to the evaluator, up to the first that doesn't decode, and says what ends them.
+/// Hands the records that are ahead to the evaluator, up to the first that doesn't decode, and says what ends them. Where
+/// the evaluator has ended before, later records are not read, and what is said of the redo's end no longer counts.
 pub fn take_all<A: Archive>(
     alloc: Global,
     evaluator: &mut Evaluator,
