@@ -2,11 +2,11 @@
 //!
 //! It has no twin that never fails, since a write has no answer for want of memory.
 
-ghost use Rattle.std.specs.Prelude.{◌≡◌, ◌↔◌, ◌⊎◌, ◌+◌, ◌<◌, ◌≤◌, [], length, List, ℕ, Some, IsTrue, IsErr, IfOk};
+ghost use Rattle.std.specs.Prelude.{not, nat_lt, if◌then◌else◌, ◌&&◌, ◌≡◌, ◌↔◌, ◌⊎◌, ◌+◌, ◌<◌, ◌≤◌, [], length, List, ℕ, Some, IsTrue, IsErr, IfOk};
 ghost use Rattle.std.specs.Io.{WritesAtMost};
 ghost use Rattle.std.specs.Io.KnownBytes.{WriteAppends};
 ghost use Rattle.rl_ports.specs.Faults.{HasCause, CountsNothing};
-ghost use Rattle.rl_mem.specs.Calls.{uncalled, fails_next};
+ghost use Rattle.rl_mem.specs.Calls.{called, faulted, uncalled, fails_next};
 
 use crate::calls::Calls;
 use rl_ports::{Failed, Sink};
@@ -67,6 +67,9 @@ impl Sink for MemSink {
     fn write(&mut self, from: &[u8]) -> Result<usize, Failed>
         ensures fails { IsErr result ↔ (IsTrue (fails_next self.old.calls) ⊎ (self.old.room < length self.old.bytes + length from.now)) }
         ensures whole { IfOk result (λ count. count ≡ length from.now) }
+        ensures room { self.new.room ≡ self.old.room }
+        ensures counted { self.new.calls ≡ (if not (fails_next self.old.calls) && nat_lt self.old.room (length self.old.bytes + length from.now)
+            then faulted (called self.old.calls) else called self.old.calls) }
         ensures bound { WritesAtMost result from.now }
         ensures bytes { WriteAppends (Some self.old.bytes) (Some self.new.bytes) result from.now }
         ensures nothing { CountsNothing self.old.calls.faults self.new.calls.faults result from.now }
