@@ -9,13 +9,21 @@ mod tests;
 mod unused;
 mod words;
 
+ghost use Rattle.std.specs.Process.{exit_status};
+ghost use Rattle.standby.specs.Command.{command_of};
+ghost use Rattle.sqlapply.specs.Exit.{EndsWith};
+
 use file_ports::{FileArchive, StdSink, StdSource};
 use rl_base::Status;
-use rl_ports::Sink;
+use rl_ports::{Archive, Sink, Source};
+use rl_value::Bytes;
 use standby::sqlapply_still;
+use std::alloc::Global;
 use std::process::ExitCode;
 use unused::Unused;
 use words::words_of;
+
+const NO_MEMORY: &[u8] = b"FAULT MEMORY\n";
 
 fn main(rt: HostRuntime) -> ExitCode {
     let Ok(mut out) = StdSink::new(&rt) else {
@@ -26,17 +34,33 @@ fn main(rt: HostRuntime) -> ExitCode {
         StdSource::new(&rt),
         FileArchive::new(&rt),
     ) else {
-        let _ = out.write(b"FAULT MEMORY\n");
+        say_no_memory(&mut out);
         return ExitCode::from(Status::Memory.code());
     };
-    let ended = sqlapply_still(
-        rt.alloc(),
-        &words,
-        &mut input,
-        &mut out,
-        archive,
-        Unused,
-        Unused,
-    );
+    run(rt.alloc(), &words, &mut input, &mut out, archive)
+}
+
+// The last line of a program that has no memory to begin with, as far as the output takes it.
+fn say_no_memory<O: Sink>(out: &mut O) {
+    let mut rest = NO_MEMORY;
+    for _ in 0..NO_MEMORY.len() {
+        match out.write(rest) {
+            Ok(count) if count < rest.len() => rest = &rest[count..],
+            _ => return,
+        }
+    }
+}
+
+// Does what the words ask, and gives the exit code of its status.
+fn run<I: Source, O: Sink, A: Archive + Drop>(
+    alloc: Global,
+    words: &[Bytes],
+    input: &mut I,
+    out: &mut O,
+    archive: A,
+) -> ExitCode
+    ensures code { EndsWith (command_of words.now) (A.logs archive) (exit_status result) (O.written out.old) (O.written out.new) }
+{
+    let ended = sqlapply_still(alloc, words, input, out, archive, Unused, Unused);
     ExitCode::from(ended.status.code())
 }
