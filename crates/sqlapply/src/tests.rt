@@ -1,10 +1,13 @@
-//! A log in a file of the folder `redo`, longer than two blocks, folded by the top call.
+//! The words of the command line, also long ones; and a log in a file of the folder `redo`, longer than two blocks, folded by
+//! the top call.
 use crate::unused::Unused;
+use crate::words::words_of as words_in;
 use file_ports::{FileArchive, StdSource};
 use rl_mem::MemSink;
 use rl_value::Bytes;
 use standby::sqlapply_still;
 use std::alloc::{AllocError, Global};
+use std::env::{Env, FillError};
 use std::fs;
 use std::test::Fail;
 
@@ -97,5 +100,46 @@ fn a_log_in_a_file_is_folded_block_by_block(rt: HostRuntime) -> Result<(), Fail>
     let lines = lines_of(alloc, TRANSACTIONS)?;
     assert!(rt; out.bytes() == lines.as_slice());
     fs::remove_dir_all(&rt, "redo")?;
+    Ok(())
+}
+
+/// A command line of words of these lengths, each of the byte `w` alone.
+#[derive(Clone, Copy)]
+struct Lengths {
+    lengths: [usize; 5],
+}
+
+impl Env for Lengths {
+    fn arg(&self, i: usize, buf: &mut [u8]) -> Result<usize, FillError> {
+        let Some(length) = self.lengths.get(i) else {
+            return Err(FillError::NotPresent);
+        };
+        if *length > buf.len() {
+            return Err(FillError::TooLong);
+        }
+        buf[..*length].fill(b'w');
+        Ok(*length)
+    }
+
+    fn var(&self, _name: &str, _buf: &mut [u8]) -> Result<usize, FillError> {
+        Err(FillError::NotPresent)
+    }
+
+    fn var_at(&self, _i: usize, _buf: &mut [u8]) -> Result<usize, FillError> {
+        Err(FillError::NotPresent)
+    }
+}
+
+#[test]
+fn words_of_each_length_are_taken_whole(rt: HostRuntime) -> Result<(), Fail> {
+    let line = Lengths {
+        lengths: [8, 0, 64, 65, 200],
+    };
+    let words = words_in(&line, rt.alloc())?;
+    assert_eq!(rt; words.len(), 4);
+    for (word, length) in words.iter().zip([0, 64, 65, 200]) {
+        assert_eq!(rt; word.bytes().len(), length);
+        assert!(rt; word.bytes().iter().all(|byte| *byte == b'w'));
+    }
     Ok(())
 }
