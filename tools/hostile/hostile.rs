@@ -3,10 +3,14 @@
 //!     hostile PROGRAM FOLDER      FOLDER is a scratch folder
 //!
 //! Over each of two logs: every cut, every change of one byte, and a byte more. Then words, things in a log's place, and outputs
-//! that take nothing. It prints how many runs each part had, and ends with 1 at the first run that ends otherwise.
+//! that take nothing, or not all. It prints how many runs each part had, and the most memory that a run so far held at one time.
+//! It ends with 1 at the first run that ends otherwise, and after a part in which a run held more than `MOST_MEMORY`: the largest
+//! log here that has records is of 40 KB, and a file of 2^40 bytes is read up to its first bad record.
 
 use std::collections::BTreeMap;
+use std::ffi::{c_int, c_long, OsString};
 use std::fs::{self, File};
+use std::os::unix::ffi::OsStringExt;
 use std::os::unix::fs::PermissionsExt;
 use std::os::unix::process::ExitStatusExt;
 use std::path::{Path, PathBuf};
@@ -14,6 +18,29 @@ use std::process::{Command, Output, Stdio};
 use std::sync::atomic::{AtomicUsize, Ordering};
 use std::sync::Mutex;
 use std::thread;
+
+/// The most memory that a run may hold at one time, in KiB.
+const MOST_MEMORY: c_long = 16 * 1024;
+
+/// The first words of the `rusage` of 64-bit Linux: two times of two words each, and the peak in KiB; and room for the rest.
+#[repr(C)]
+struct Usage {
+    times: [c_long; 4],
+    peak: c_long,
+    rest: [c_long; 13],
+}
+
+unsafe extern "C" {
+    fn getrusage(who: c_int, usage: *mut Usage) -> c_int;
+}
+
+/// The most memory in KiB that one of the ended children held at one time; or this program, which each of them was at first.
+fn peak() -> c_long {
+    const CHILDREN: c_int = -1;
+    let mut usage = Usage { times: [0; 4], peak: 0, rest: [0; 13] };
+    assert_eq!(unsafe { getrusage(CHILDREN, &mut usage) }, 0, "getrusage");
+    usage.peak
+}
 
 /// A log as it grows.
 struct Log {
@@ -109,6 +136,18 @@ fn all_kinds() -> Vec<u8> {
     log.finish()
 }
 
+/// T.A again: a transaction inserts 1,000 rows, whose lines are of about 20 KB.
+fn many_rows() -> Vec<u8> {
+    let mut log = Log::new();
+    log.record(&[vec![8, 0, 0, 0, 1, 1, b'T', 1, b'A', 1, 2, b'I', b'D', 1, 0, 0, 0, 1, 0, 0], vec![9]]);
+    log.record(&[of_transaction(1, 3, &[])]);
+    for row in 0..1000 {
+        log.record(&[change(2, 3, &[0], &cells(&[number(0, 1_000_000_000 + row)]))]);
+    }
+    log.record(&[of_transaction(6, 3, &[])]);
+    log.finish()
+}
+
 /// Why this end is none of the table, if it is none.
 fn fault_of(output: &Output) -> Option<String> {
     let Some(code) = output.status.code() else {
@@ -142,7 +181,7 @@ fn room(folder: &Path, name: usize) -> PathBuf {
     room
 }
 
-fn run(program: &Path, room: &Path, words: &[&str]) -> Output {
+fn run<W: AsRef<std::ffi::OsStr>>(program: &Path, room: &Path, words: &[W]) -> Output {
     Command::new(program).args(words).current_dir(room).stdin(Stdio::null()).output().expect("the program runs")
 }
 
@@ -215,6 +254,35 @@ fn words(program: &Path, folder: &Path) -> Result<usize, String> {
     Ok(cases.len())
 }
 
+/// So many lists of words by chance, of any bytes but 0.
+fn words_by_chance(program: &Path, folder: &Path, count: usize) -> Result<usize, String> {
+    let room = room(folder, 0);
+    let mut state: u64 = 88_172_645_463_325_252;
+    let mut draw = move |below: u64| {
+        state ^= state << 13;
+        state ^= state >> 7;
+        state ^= state << 17;
+        (state >> 11) % below
+    };
+    let known = ["fold", "mine", "run", "load", "1", "2", "4294967295", "4294967296", "00", "-", "--", "fold 1", "\u{ff11}"];
+    for number in 0..count {
+        let mut words: Vec<OsString> = Vec::new();
+        for _ in 0..draw(5) {
+            if draw(2) == 0 {
+                words.push(known[draw(known.len() as u64) as usize].into());
+                continue;
+            }
+            let size = draw(70);
+            words.push(OsString::from_vec((0..size).map(|_| draw(255) as u8 + 1).collect()));
+        }
+        let output = run(program, &room, &words);
+        if let Some(fault) = fault_of(&output) {
+            return Err(format!("words {number}, {words:?}: {fault}"));
+        }
+    }
+    Ok(count)
+}
+
 /// Things in a log's place that are none, and outputs that take nothing.
 fn devices(program: &Path, folder: &Path) -> Result<usize, String> {
     let room = room(folder, 0);
@@ -248,13 +316,22 @@ fn devices(program: &Path, folder: &Path) -> Result<usize, String> {
         expect("a log that may not be read", &output, 3)?;
     }
     fs::set_permissions(&path, fs::Permissions::from_mode(0o644)).expect("permissions");
-    for full in ["/dev/full"] {
-        let out = File::options().write(true).open(full).expect("a full device");
-        let status = Command::new(program).args(["fold", "1"]).current_dir(&room).stdin(Stdio::null()).stdout(out).status().expect("the program runs");
-        if status.code() != Some(5) {
-            return Err(format!("an output that is full: status {status:?}"));
-        }
+    let out = File::options().write(true).open("/dev/full").expect("a full device");
+    let status = Command::new(program).args(["fold", "1"]).current_dir(&room).stdin(Stdio::null()).stdout(out).status().expect("the program runs");
+    if status.code() != Some(5) {
+        return Err(format!("an output that is full: status {status:?}"));
     }
+    // A disk that fills up: a write takes the bytes up to the limit of a file's size, and the next one takes none.
+    fs::write(&path, many_rows()).expect("a log");
+    let whole = run(program, &room, &["fold", "1"]);
+    expect("1,000 rows", &whole, 0)?;
+    let short = "trap '' XFSZ; ulimit -f 8; exec \"$0\" fold 1 > lines";
+    let status = Command::new("sh").args(["-c", short]).arg(program).current_dir(&room).status().expect("the program runs");
+    let lines = fs::read(room.join("lines")).expect("lines");
+    if status.code() != Some(5) || lines.len() >= whole.stdout.len() || lines != whole.stdout[..lines.len()] {
+        return Err(format!("an output that fills up: status {status:?}, {} bytes of {}", lines.len(), whole.stdout.len()));
+    }
+    fs::write(&path, first()).expect("a log");
     let closed = Command::new("sh").args(["-c", "exec \"$0\" fold 1 >&-"]).arg(program).current_dir(&room).status().expect("the program runs");
     if !matches!(closed.code(), Some(5 | 0)) {
         return Err(format!("an output that is closed: status {closed:?}"));
@@ -269,7 +346,7 @@ fn devices(program: &Path, folder: &Path) -> Result<usize, String> {
     File::create(room.join("redo")).expect("a file");
     let output = run(program, &room, &["fold", "1"]);
     match fault_of(&output) {
-        None => Ok(13),
+        None => Ok(15),
         Some(fault) => Err(format!("a file in the folder's place: {fault}")),
     }
 }
@@ -279,16 +356,21 @@ fn main() {
     let [program, folder] = &args[..] else {
         panic!("hostile PROGRAM FOLDER");
     };
+    let tell = |what: String| -> Result<(), String> {
+        let peak = peak();
+        println!("{what}; peak {:.1} MB", peak as f64 * 1024.0 / 1e6);
+        if peak <= MOST_MEMORY { Ok(()) } else { Err(format!("a run held {peak} KiB")) }
+    };
     let all = || -> Result<(), String> {
         for (name, log) in [("the first log", first()), ("a log of all kinds", all_kinds())] {
             let counts = logs(program, folder, &log)?;
             let runs: usize = counts.values().sum();
             let told: Vec<String> = counts.iter().map(|(code, count)| format!("{count} with status {code}")).collect();
-            println!("{name}, {} bytes: {runs} runs: {}", log.len(), told.join(", "));
+            tell(format!("{name}, {} bytes: {runs} runs: {}", log.len(), told.join(", ")))?;
         }
-        println!("words: {} runs", words(program, folder)?);
-        println!("devices: {} runs", devices(program, folder)?);
-        Ok(())
+        tell(format!("words: {} runs", words(program, folder)?))?;
+        tell(format!("words by chance: {} runs", words_by_chance(program, folder, 3000)?))?;
+        tell(format!("devices: {} runs", devices(program, folder)?))
     };
     if let Err(fault) = all() {
         println!("{fault}");

@@ -11,6 +11,7 @@ fn logs_are_files_of_the_folder(rt: HostRuntime) -> Result<(), Fail> {
     let _ = fs::remove_dir_all(&rt, FOLDER);
     fs::create_dir(&rt, FOLDER)?;
     fs::write(&rt, "redo/log_7.srl", b"abcdef".as_slice())?;
+    fs::write(&rt, "redo/log_10.srl", b"wxyz".as_slice())?;
     fs::create_dir(&rt, "redo/log_8.srl")?;
     let mut archive = FileArchive::new(&rt)?;
     let mut some = [0u8; 4];
@@ -19,14 +20,26 @@ fn logs_are_files_of_the_folder(rt: HostRuntime) -> Result<(), Fail> {
     assert_eq!(rt; some, *b"bcde");
     assert!(rt; matches!(archive.read(7, 5, &mut some), Ok(1)));
     assert!(rt; matches!(archive.read(7, 6, &mut some), Ok(0)));
+    // Two logs by turns: each read is of the log that is asked for.
+    assert!(rt; matches!(archive.length(10), Ok(Some(4))));
+    assert!(rt; matches!(archive.read(10, 0, &mut some), Ok(4)));
+    assert_eq!(rt; some, *b"wxyz");
+    assert!(rt; matches!(archive.read(7, 2, &mut some), Ok(4)));
+    assert_eq!(rt; some, *b"cdef");
     // An absent log is no failure, as long as it is not read. A folder in a log's place is one.
     assert!(rt; matches!(archive.length(9), Ok(None)));
     assert!(rt; archive.read(9, 0, &mut some).is_err());
     assert!(rt; archive.length(8).is_err());
+    assert!(rt; archive.read(8, 0, &mut some).is_err());
     // A log that was read before is opened anew.
     assert!(rt; matches!(archive.read(7, 0, &mut some), Ok(4)));
     assert_eq!(rt; some, *b"abcd");
     fs::remove_dir_all(&rt, FOLDER)?;
+    // Without a folder each log is absent; with a file in its place nobody can say.
+    assert!(rt; matches!(archive.length(7), Ok(None)));
+    fs::write(&rt, FOLDER, b"".as_slice())?;
+    assert!(rt; archive.length(7).is_err());
+    fs::remove_file(&rt, FOLDER)?;
     Ok(())
 }
 

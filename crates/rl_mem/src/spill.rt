@@ -80,6 +80,7 @@ impl Spill for SureSpill {
 
     #[tactic(auto, using(crate::proofs::Maps::maps))]
     fn drop_id(&mut self, id: u64) -> Result<(), Failed> {
+        // The ids differ from one another, so that one chunk goes.
         let _ = self.chunks.len();
         let _ = self.chunks.remove(&id);
         Ok(())

@@ -11,4 +11,4 @@ mod tests;
 pub use input::{ReadFault, read_all};
 pub use literal::{put_key, put_row, put_value, put_xid};
 pub use output::put_line;
-pub use reading::read_value;
+pub use reading::{literals_have_one_value, read_value};

@@ -38,7 +38,7 @@ pub enum HeadFault {
 pub enum CutFault {
     /// The record's length is outside its limits.
     Length,
-    /// The record's count of vectors is 0.
+    /// The record's count of vectors is not 1 to 255.
     Count,
     /// The log ends inside a record, or before the last one.
     Truncated,
@@ -59,7 +59,7 @@ pub enum VecFault {
     Utf8,
     /// A text or a raw value has no byte.
     Empty,
-    /// A text, a raw value or a name is too long, or a column's size is outside its limits.
+    /// A text or a raw value is too long, a name is too long or has no byte, or a column's size is outside its limits.
     Size,
     /// A field runs past the record, or bytes are left behind its last vector.
     End,
@@ -70,7 +70,7 @@ pub enum VecFault {
 pub enum LawFault {
     /// The log does not begin at the SCN at which the one before it ends.
     Chain,
-    /// The record's SCN falls, or leaves its log's range.
+    /// The record's SCN falls, or leaves its log's range; or a COMMIT's is not above that of the commit before.
     Scn,
     /// A vector that has to stand alone in its record does not.
     Alone,
@@ -80,7 +80,7 @@ pub enum LawFault {
     Twice,
     /// A table's or a column's name is no name, or a column's name comes twice.
     Names,
-    /// A key's columns are none of the table's, or may be Null, or two keys are equal.
+    /// A key's columns are none of the table's, a primary key's may be Null, or two keys are equal.
     Keys,
     /// There are too many tables, or a row or a key is too wide.
     Limit,
@@ -90,13 +90,13 @@ pub enum LawFault {
     NotOpen,
     /// A change names no table of the dictionary.
     NoTable,
-    /// A change has a column that its table does not have.
+    /// A change has a column that its table does not have, or not the cells that its kind wants.
     Columns,
     /// A cell's value does not fit its column.
     Types,
-    /// A cell that has to be logged besides those that change is missing.
+    /// The old cells of an UPDATE are not exactly those that it has to log.
     Supplement,
-    /// A change touches a key that another open transaction has touched: the least such key, and its holder.
+    /// A change touches a key that another open transaction holds by a surviving change: the least such key, and its holder.
     Lock { key: Key, holder: Xid },
     /// An UNDO finds no change to take back.
     Nothing,

@@ -26,7 +26,7 @@ pub enum Stop {
 pub enum Verdict {
     /// All that the redo holds up to its end was applied.
     Stopped(Stop),
-    /// A change of the first commit that is not applied, with the SCN of that commit, misses its row.
+    /// A change of the first commit that is not applied, with the SCN of that commit, does not find the rows as they were logged.
     Mismatch {
         scn: Scn,
         pos: Pos,

@@ -6,11 +6,11 @@ use std::env::{Env, FillError};
 // Bytes that are tried first for a word.
 const SHORT: usize = 64;
 
-// The word at this place as it fits into so many bytes; `Ok(None)` where it does not fit, and no error but want of memory.
+// What so many bytes take of the word at a place: all of it, or not, or there is no word.
 enum Word {
     Whole(Vec<u8>),
     Longer,
-    None,
+    Absent,
 }
 
 fn word_within<E: Env>(
@@ -26,7 +26,7 @@ fn word_within<E: Env>(
             Ok(Word::Whole(bytes))
         }
         Err(FillError::TooLong) => Ok(Word::Longer),
-        Err(FillError::NotPresent) => Ok(Word::None),
+        Err(FillError::NotPresent) => Ok(Word::Absent),
     }
 }
 
@@ -37,7 +37,7 @@ fn word_at<E: Env>(env: &E, alloc: Global, place: usize) -> Result<Option<Bytes>
         match word_within(env, alloc, place, most)? {
             Word::Whole(bytes) => return Ok(Some(Bytes::of(bytes))),
             Word::Longer => most = most.saturating_mul(2),
-            Word::None => return Ok(None),
+            Word::Absent => return Ok(None),
         }
     }
     Err(AllocError)
