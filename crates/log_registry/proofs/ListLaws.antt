@@ -14,7 +14,7 @@ use Rattle.std.specs.declared.ops.Bound.TheVariants.{Included, Unbounded}
 use Rattle.std.proofs.lemmas.Bool.Decides.{nat_tests}
 use Rattle.log_registry.specs.declared.entry.LogEntry.{LogEntry}
 use Rattle.log_registry.specs.Keyed.{AreKeyed, IsKeyed}
-use Rattle.log_registry.specs.Registered.{entry_of, entries_from, with_log, RiseFrom, IsRising, AreBelow, next_in, Log, Gap}
+use Rattle.log_registry.specs.Registered.{entry_of, entries_from, with_log, count_of, IsOf, AreOf, RiseFrom, IsRising, AreBelow, next_in, Log, Gap}
 
 turned : (a b : ℕ) → (a == b) ≡ (b == a)
 turned a b = grind (arith, nat_tests)
@@ -97,6 +97,25 @@ found_with e [] seq absent = refl
 found_with e (first ∷ es) seq absent =
     let head = absent_head (first.head.seq == e.head.seq) first (entry_of e.head.seq es) absent in
     found_at (nat_lt e.head.seq first.head.seq) e first es seq head.0 (found_with e es seq head.1)
+
+-- ---- what holds of the entries after an insert
+
+count_at : (b : Bool) (e first : LogEntry) (es : List LogEntry) → count_of (with_log e es) ≡ e.head.count + count_of es → count_of (cond b (e ∷ first ∷ es) (first ∷ with_log e es)) ≡ e.head.count + (first.head.count + count_of es)
+count_at true e first es later = refl
+count_at false e first es later = omega (arith, later)
+
+pub count_with : (e : LogEntry) (es : List LogEntry) → count_of (with_log e es) ≡ e.head.count + count_of es
+count_with e [] = refl
+count_with e (first ∷ es) = count_at (nat_lt e.head.seq first.head.seq) e first es (count_with e es)
+
+are_at : (b : Bool) (logs : ℕ → Option (List ℕ)) (e first : LogEntry) (es : List LogEntry) → AreOf logs (first ∷ es) → IsOf logs e → AreOf logs (with_log e es) → AreOf logs (cond b (e ∷ first ∷ es) (first ∷ with_log e es))
+are_at true logs e first es are of later = (of, are)
+are_at false logs e first es are of later = (are.0, later)
+
+-- the logs of an archive stay so
+pub are_with : (logs : ℕ → Option (List ℕ)) (e : LogEntry) (es : List LogEntry) → AreOf logs es → IsOf logs e → AreOf logs (with_log e es)
+are_with logs e [] are of = (of, tt)
+are_with logs e (first ∷ es) are of = are_at (nat_lt e.head.seq first.head.seq) logs e first es are of (are_with logs e es are.1 of)
 
 -- ---- in order
 

@@ -71,6 +71,11 @@ abbrev pub with_log : LogEntry → List LogEntry → List LogEntry
 with_log added [] = added ∷ []
 with_log added (e ∷ entries) = if nat_lt added.head.seq e.head.seq then added ∷ e ∷ entries else e ∷ with_log added entries
 
+-- how many records the logs have by their headers
+abbrev pub count_of : List LogEntry → ℕ
+count_of [] = 0
+count_of (e ∷ entries) = e.head.count + count_of entries
+
 -- ---- what comes next
 
 -- a log, nothing any more, or the missing sequences, both ends included

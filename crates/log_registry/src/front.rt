@@ -6,10 +6,8 @@ ghost use Rattle.std.specs.Prelude.{◌≡◌, ◌+◌, ◌≤◌, length, IfOk,
 ghost use Rattle.rl_ports.specs.Faults.{Told, Rose};
 ghost use Rattle.log_registry.specs.Front.{IsReadTo, IsReadOn, IsFront};
 
+use redo_wire::HEADER_LENGTH;
 use rl_ports::{Archive, Failed};
-
-/// A header's length in bytes.
-pub(crate) const HEADER: usize = 40;
 
 // Reads more bytes behind the first `count`, and says how many.
 fn read_on<A: Archive>(
@@ -33,7 +31,7 @@ fn read_on<A: Archive>(
 pub(crate) fn read_front<A: Archive>(
     archive: &mut A,
     seq: u32,
-    front: &mut [u8; HEADER],
+    front: &mut [u8; HEADER_LENGTH],
 ) -> Result<usize, Failed>
     ensures bound { IfOk result (λ count. count ≤ 40) }
     ensures front { Told (A.logs archive.old) (λ logs. IfOk result (IsFront (logs seq) front.new)) }
@@ -42,7 +40,7 @@ pub(crate) fn read_front<A: Archive>(
     ensures count { A.faults archive.old ≤ A.faults archive.new }
 {
     let mut count = 0;
-    while count < HEADER {
+    while count < HEADER_LENGTH {
         let more = read_on(archive, seq, front, count)?;
         if more == 0 {
             return Ok(count);

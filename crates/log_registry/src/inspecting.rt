@@ -7,8 +7,8 @@ ghost use Rattle.log_registry.specs.Registered.{looked, inspected};
 
 use crate::entry::LogEntry;
 use crate::fault::RegFault;
-use crate::front::{HEADER, read_front};
-use redo_wire::read_header;
+use crate::front::read_front;
+use redo_wire::{HEADER_LENGTH, read_header};
 use rl_ports::Archive;
 use rl_value::HeadFault;
 
@@ -16,7 +16,7 @@ use rl_value::HeadFault;
 fn judge(front: &[u8], size: u64, seq: u32) -> Result<LogEntry, RegFault>
     ensures { result ≡ judged front.now size seq }
 {
-    if size < HEADER as u64 {
+    if size < HEADER_LENGTH as u64 {
         return Err(RegFault::BadHeader(HeadFault::Short));
     }
     match read_header(front, seq) {
@@ -39,7 +39,7 @@ pub fn look<A: Archive>(archive: &mut A, seq: u32) -> Result<LogEntry, RegFault>
     match archive.length(seq)? {
         None => Err(RegFault::NoLog),
         Some(size) => {
-            let mut front = [0u8; HEADER];
+            let mut front = [0u8; HEADER_LENGTH];
             let count = read_front(archive, seq, &mut front)?;
             judge(&front[..count], size, seq)
         }

@@ -1,6 +1,6 @@
 //! The registered logs, in order of their sequences.
-ghost use Rattle.std.specs.Prelude.{◌≡◌, ◌^◌, ◌==◌, if◌then◌else◌, ℕ, false, [], None, Some, is_some, IfOk, OnOk, OnErr};
-ghost use Rattle.log_registry.specs.Registered.{entry_of, entries_from, next_in, following_of, with_log, IsRising, AreBelow};
+ghost use Rattle.std.specs.Prelude.{◌≡◌, ◌+◌, ◌^◌, ◌==◌, if◌then◌else◌, ℕ, List, false, [], Option, None, Some, is_some, IfOk, OnOk, OnErr};
+ghost use Rattle.log_registry.specs.Registered.{entry_of, entries_from, next_in, following_of, with_log, count_of, IsOf, AreOf, IsRising, AreBelow};
 
 use crate::entry::LogEntry;
 use crate::next::Next;
@@ -56,6 +56,9 @@ impl Registry {
         // It is there, and the others are as they were.
         ensures found { OnOk result ((seq : ℕ) → entry_of seq self.new ≡ (if entry.head.seq == seq then Some entry else entry_of seq self.old)) }
         ensures rising { IsRising self.new }
+        // Of an archive's logs the list stays one, and its records are counted together.
+        ensures archived { (logs : ℕ → Option (List ℕ)) → AreOf logs self.old → IsOf logs entry → OnOk result (AreOf logs self.new) }
+        ensures count { OnOk result (count_of self.new ≡ entry.head.count + count_of self.old) }
         ensures unchanged { OnErr result (self.new ≡ self.old) }
     {
         match self.logs.insert(entry.head.seq, entry) {
@@ -97,7 +100,7 @@ impl Registry {
 
     /// The same logs again.
     pub fn copy(&self) -> Result<Registry, NoMemory>
-        ensures { IfOk result (λ copy. copy ≡ self.now) }
+        ensures equal { IfOk result (λ copy. copy ≡ self.now) }
     {
         match self.logs.clone() {
             Ok(logs) => Ok(Registry { logs }),

@@ -1,3 +1,4 @@
+//! Looks at five logs, in whole and in short reads and with a fault at each call; gaps, ends and copies of three logs.
 ghost use Rattle.std.specs.Prelude.{◌≡◌, None, false, refl};
 ghost use Rattle.rl_ports.specs.Faults.{HasCause};
 

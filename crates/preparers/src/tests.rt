@@ -107,6 +107,16 @@ fn the_65th_record_finds_no_room(rt: HostRuntime) -> Result<(), Fail> {
 }
 
 #[test]
+fn a_copy_of_a_refusal_has_its_record(rt: HostRuntime) -> Result<(), Fail> {
+    let alloc = rt.alloc();
+    let copy = Unposted::NotNext(cut(alloc, 72, &COMMIT)?).copy()?;
+    assert!(rt; matches!(&copy, Unposted::NotNext(raw) if raw.rec == 72));
+    let copy = Unposted::Full(cut(alloc, 71, &COMMIT)?).copy()?;
+    assert!(rt; matches!(&copy, Unposted::Full(raw) if raw.rec == 71));
+    Ok(())
+}
+
+#[test]
 fn a_piece_whose_number_is_not_lent_is_dropped(rt: HostRuntime) -> Result<(), Fail> {
     let alloc = rt.alloc();
     let mut window = Window::new(alloc, 4)?;

@@ -11,10 +11,9 @@ use Rattle.rl_value.specs.Outcome.{first_fault, refused_by}
 use Rattle.redo_vec.specs.Cutting.{number_in, first_record}
 use Rattle.redo_spec.specs.declared.header.Header.{Header}
 use Rattle.redo_wire.specs.declared.raw.Raw.{Raw}
-use Rattle.redo_wire.specs.declared.cutting.Place.{Place as LogPlace}
+use Rattle.redo_wire.specs.declared.cutting.LogPlace.{LogPlace}
 use Rattle.redo_wire.specs.Stream.{Cut as LogCut, Stream, with_raw, cut_or, cut_off, behind as past, raw_at, begun, given, nothing, fed, joined}
-use Rattle.redo_wire.proofs.StreamLaws.{given_more}
-use Rattle.redo_reader.specs.Steps.{with_raws, behind_all}
+use Rattle.redo_reader.specs.Steps.{with_raws, behind_all, GoesOn}
 
 -- ---- the place behind a cut
 
@@ -28,12 +27,12 @@ walks h zero p [] = refl
 walks h zero p (b ∷ bytes) = refl
 walks h (suc k) p bytes = walks_by h k p bytes (λ q rest. walks h k q rest) (first_record bytes)
 
-given_walks : (over : Bool) (s : Stream) (piece : List ℕ) → s.over ≡ over → (given s piece).place ≡ behind_all s.place (given s piece).raws
+given_walks : (fault_told : Bool) (s : Stream) (piece : List ℕ) → s.fault_told ≡ fault_told → (given s piece).place ≡ behind_all s.place (given s piece).raws
 given_walks true s piece is = rw is refl
 given_walks false s piece is = rw is (walks s.head (s.head.count - s.place.done) s.place (s.left ++ piece))
 
 pub stream_walks : (s : Stream) (piece : List ℕ) → (given s piece).place ≡ behind_all s.place (given s piece).raws
-stream_walks s piece = given_walks s.over s piece refl
+stream_walks s piece = given_walks s.fault_told s piece refl
 
 -- ---- the first record of a cut
 
@@ -104,17 +103,13 @@ second_none : (c d e : Option CutFault) → c ≡ None → c ≡ option_or c d �
 second_none None d e is h = sym h
 second_none (Some f) d e is h = absurd (cc)
 
-pub fed_settled : (s : Stream) (piece : List ℕ) → (given s piece).cause ≡ None → given (fed s piece) [] ≡ nothing (fed s piece)
-fed_settled s piece none =
+pub fed_settled : (s : Stream) (piece : List ℕ) → GoesOn s piece → (given s piece).cause ≡ None → given (fed s piece) [] ≡ nothing (fed s piece)
+fed_settled s piece on none =
     let a : LogCut = given s piece in
     let d : LogCut = given (fed s piece) [] in
-    let e : a ≡ joined a d = ap (given s) (sym (append-nil piece)) ∙ given_more s piece [] in
+    let e : a ≡ joined a d = ap (given s) (sym (append-nil piece)) ∙ on [] in
     let raws : d.raws ≡ [] = no_more a.raws d.raws (ap (λ (c : LogCut). c.raws) e) in
     let place : d.place ≡ a.place = sym (ap (λ (c : LogCut). c.place) e) in
     let left : d.left ≡ a.left = sym (ap (λ (c : LogCut). c.left) e) in
     let cause : d.cause ≡ None = second_none a.cause d.cause None none (ap (λ (c : LogCut). c.cause) e) in
     λ i. record { raws = raws i; place = place i; left = left i; cause = cause i }
-
--- more bytes behind a piece
-pub goes_on : (s : Stream) (piece rest : List ℕ) → given s (piece ++ rest) ≡ with_raws (given s piece).raws (given s piece).cause (given (fed s piece) rest)
-goes_on s piece rest = given_more s piece rest

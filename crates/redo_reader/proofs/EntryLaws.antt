@@ -6,12 +6,12 @@ use Rattle.rl_value.specs.declared.verdict.Stop.TheVariants as stops
 use Rattle.rl_value.specs.declared.cause.HeadFault.{HeadFault}
 use Rattle.redo_spec.specs.declared.header.Header.{Header}
 use Rattle.redo_spec.specs.LogHeader.{header_in, header_fault}
-use Rattle.redo_wire.specs.declared.cutting.Place.{Place as LogPlace}
+use Rattle.redo_wire.specs.declared.cutting.LogPlace.{LogPlace}
 use Rattle.log_registry.specs.declared.entry.LogEntry.{LogEntry}
 use Rattle.log_registry.specs.declared.fault.RegFault.TheVariants as refusals
-use Rattle.log_registry.specs.Registered.{Following, AreOf, IsOf, AreBelow, RiseFrom, entry_of, entries_from, with_log, next_in, inspected, of_database, unless_refused, Log, End, Gap}
+use Rattle.log_registry.specs.Registered.{Following, AreOf, IsOf, AreBelow, RiseFrom, entry_of, entries_from, count_of, next_in, inspected, of_database, unless_refused, Log, End, Gap}
 use Rattle.redo_reader.specs.Ahead.{ahead_in, nothing_but}
-use Rattle.redo_reader.specs.Reading.{count_of, done_within}
+use Rattle.redo_reader.specs.Reading.{done_within}
 
 -- ---- what comes next
 
@@ -219,13 +219,3 @@ fewer_at false seq e es less = omega arith
 pub fewer : (seq : ℕ) (es : List LogEntry) → count_of (entries_from seq es) ≤ count_of es
 fewer seq [] = omega arith
 fewer seq (e ∷ es) = fewer_at (nat_lt e.head.seq seq) seq e es (fewer seq es)
-
--- ---- how many records the logs have
-
-count_at : (b : Bool) (e first : LogEntry) (es : List LogEntry) → count_of (with_log e es) ≡ e.head.count + count_of es → count_of (cond b (e ∷ first ∷ es) (first ∷ with_log e es)) ≡ e.head.count + (first.head.count + count_of es)
-count_at true e first es later = refl
-count_at false e first es later = omega (arith, later)
-
-pub count_with : (e : LogEntry) (es : List LogEntry) → count_of (with_log e es) ≡ e.head.count + count_of es
-count_with e [] = refl
-count_with e (first ∷ es) = count_at (nat_lt e.head.seq first.head.seq) e first es (count_with e es)

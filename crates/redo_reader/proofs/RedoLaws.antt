@@ -18,7 +18,7 @@ use Rattle.redo_spec.specs.LogHeader.{header_in, header_fault}
 use Rattle.redo_spec.specs.History.{Entry}
 use Rattle.redo_spec.specs.Redo.{Redo, Records, ended, joined, after_records, records_in, records_of, redo_from, decoded_or as entry_or}
 use Rattle.redo_wire.specs.declared.raw.Raw.{Raw}
-use Rattle.redo_wire.specs.declared.cutting.Place.{Place as LogPlace}
+use Rattle.redo_wire.specs.declared.cutting.LogPlace.{LogPlace}
 use Rattle.redo_wire.specs.Stream.{Cut, Run, cut_off, cut_or, with_raw, raw_at, behind, run_of, begun, as_cut, end_fault}
 use Rattle.redo_wire.specs.Records.{missing_after, decoded as entries_of_raws}
 use Rattle.log_registry.specs.declared.entry.LogEntry.{LogEntry}

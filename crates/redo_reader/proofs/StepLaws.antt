@@ -10,19 +10,19 @@ use Rattle.rl_value.specs.declared.verdict.Stop.TheVariants as stops
 use Rattle.rl_ports.specs.Faults.{Told}
 use Rattle.redo_spec.specs.declared.header.Header.{Header}
 use Rattle.redo_wire.specs.declared.raw.Raw.{Raw}
-use Rattle.redo_wire.specs.declared.cutting.Place.{Place as LogPlace}
+use Rattle.redo_wire.specs.declared.cutting.LogPlace.{LogPlace}
 use Rattle.redo_wire.specs.Stream.{Cut as LogCut, Stream, with_raw, cut_off, behind as past, given, nothing, fed, end_fault}
 use Rattle.redo_wire.specs.Records.{IsFramed, AreFramed}
 use Rattle.log_registry.specs.declared.entry.LogEntry.{LogEntry}
-use Rattle.log_registry.specs.Registered.{AreOf, AreBelow, IsRising, entry_of, entries_from, next_in, Log}
+use Rattle.log_registry.specs.Registered.{AreOf, count_of, AreBelow, IsRising, entry_of, entries_from, next_in, Log}
 use Rattle.redo_reader.specs.declared.place.Place.{Place}
 use Rattle.redo_reader.specs.declared.progress.OpenLog.{OpenLog}
-use Rattle.redo_reader.specs.declared.progress.Ended.{Ended}
-use Rattle.redo_reader.specs.declared.progress.Ended.TheVariants as ends
+use Rattle.redo_reader.specs.declared.progress.RedoEnd.{RedoEnd}
+use Rattle.redo_reader.specs.declared.progress.RedoEnd.TheVariants as ends
 use Rattle.redo_reader.specs.Ahead.{Ahead, ahead, ahead_in, in_log, in_its_log, log_begin, nothing_but, raws_before, unless_broken, cause_of, bytes_or_none}
-use Rattle.redo_reader.specs.Reading.{count_of, behind, settled}
+use Rattle.redo_reader.specs.Reading.{behind, clamped_place}
 use Rattle.redo_reader.specs.Steps.{with_raws, behind_all, IsClosed, IsOpen, Continues, ContinuesIn, IsInStep, IsReading, IsSide, EndsAt, opened, IsBegun, IsFed, IsPieceOf, IsAtEnd, IsCutBy, IsEnd, stop_of}
-use Rattle.redo_reader.proofs.CutLaws.{taken, stream_walks, begun_settled, fed_settled, goes_on}
+use Rattle.redo_reader.proofs.CutLaws.{taken, stream_walks, begun_settled, fed_settled}
 use Rattle.redo_reader.proofs.EntryLaws.{first_of, its_bytes, found, log_is, behind_first, none_behind_last, fewer, offset_is, within_is}
 
 -- ---- what an open log gives
@@ -85,7 +85,7 @@ given_open registry front raw ws log o =
       size = o.size;
       framed = o.framed.1;
       place = o.place;
-      over = o.over;
+      fault_told = o.fault_told;
       settled = o.settled;
       done = omega (arith, within, done, count);
       room = omega (arith, within, done, count, room);
@@ -208,7 +208,7 @@ opened_open registry front log c b =
       size = refl;
       framed = tt;
       place = refl;
-      over = refl;
+      fault_told = refl;
       settled = (λ none. begun_settled b.entry.head (front.rec + 1) front.at front.done);
       done = may.done;
       room = omega (arith, sum, room, may.done);
@@ -231,14 +231,14 @@ begins_reading known registry place front waiting log none r b =
 
 -- ---- a block is cut
 
-over_is : (over : Bool) (s : Stream) (piece : List ℕ) → s.over ≡ over → over ≡ false → (fed s piece).over ≡ is_some (given s piece).cause
-over_is true s piece is shut = absurd (cc)
-over_is false s piece is shut = rw is refl
+told_is : (fault_told : Bool) (s : Stream) (piece : List ℕ) → s.fault_told ≡ fault_told → fault_told ≡ false → (fed s piece).fault_told ≡ is_some (given s piece).cause
+told_is true s piece is shut = absurd (cc)
+told_is false s piece is shut = rw is refl
 
 fed_open : (known : Option (ℕ → Option (List ℕ))) (registry : List LogEntry) (front : Place) (old new : OpenLog) (raws : List Raw) → IsOpen registry front [] old → IsCutBy known front.seq old new raws → IsOpen registry front raws new
 fed_open known registry front old new raws o c =
     let f = c.fed in
-    let not_over : old.cutter.over ≡ false = o.over ∙ ap is_some c.none in
+    let not_told : old.cutter.fault_told ≡ false = o.fault_told ∙ ap is_some c.none in
     let head : new.cutter.head ≡ old.cutter.head = ap (λ (s : Stream). s.head) f.cutter in
     let place : new.cutter.place ≡ behind_all (in_its_log front) raws =
     ap (λ (s : Stream). s.place) f.cutter ∙ stream_walks old.cutter c.piece ∙ (λ i. behind_all (o.place i) (sym f.gave i)) in
@@ -253,8 +253,8 @@ fed_open known registry front old new raws o c =
       size = f.size ∙ o.size;
       framed = subst (λ (h : Header). AreFramed h (in_its_log front) raws) (sym head) (subst (λ (p : LogPlace). AreFramed old.cutter.head p raws) o.place f.framed);
       place = place;
-      over = ap (λ (s : Stream). s.over) f.cutter ∙ over_is old.cutter.over old.cutter c.piece refl not_over ∙ ap is_some (sym f.cause);
-      settled = (λ none. subst (λ (s : Stream). given s [] ≡ nothing s) (sym f.cutter) (fed_settled old.cutter c.piece (sym f.cause ∙ none)));
+      fault_told = ap (λ (s : Stream). s.fault_told) f.cutter ∙ told_is old.cutter.fault_told old.cutter c.piece refl not_told ∙ ap is_some (sym f.cause);
+      settled = (λ none. subst (λ (s : Stream). given s [] ≡ nothing s) (sym f.cutter) (fed_settled old.cutter c.piece f.on (sym f.cause ∙ none)));
       done = o.done;
       room = o.room;
     }
@@ -263,7 +263,7 @@ fed_continues : (front : Place) (old new : OpenLog) (piece : List ℕ) (raws : L
 fed_continues front old new piece raws bytes f none parts cont =
     let head : new.cutter.head ≡ old.cutter.head = ap (λ (s : Stream). s.head) f.cutter in
     let given_all : given old.cutter (drop old.offset bytes) ≡ with_raws raws new.cause (given new.cutter (drop new.offset bytes)) =
-    ap (given old.cutter) parts ∙ goes_on old.cutter piece (drop (old.offset + length piece) bytes)
+    ap (given old.cutter) parts ∙ f.on (drop (old.offset + length piece) bytes)
     ∙ (λ i. with_raws (sym f.gave i) (sym f.cause i) (given (sym f.cutter i) (drop (sym f.offset i) bytes))) in
     let before : cut_off old.cutter.head (old.cutter.head.count - front.done) (in_its_log front) (drop front.at bytes) ≡ given old.cutter (drop old.offset bytes) =
     cont ∙ ap (λ (c : Option CutFault). with_raws [] c (given old.cutter (drop old.offset bytes))) none in
@@ -285,22 +285,18 @@ feeds_reading known registry place front waiting old new raws none r c =
 
 -- ---- the end of a log
 
-abbrev fault_ahead : Option CutFault → ℕ → Ahead → Ahead
-fault_ahead found rec later = unless_broken found rec later
+told_nothing : (s : Stream) (bytes : List ℕ) → s.fault_told ≡ true → given s bytes ≡ nothing s
+told_nothing s bytes is = rw is refl
 
-over_nothing : (s : Stream) (bytes : List ℕ) → s.over ≡ true → given s bytes ≡ nothing s
-over_nothing s bytes is = rw is refl
-
-end_cause : (s : Stream) (h : Header) (cause : Option CutFault) → s.head ≡ h → s.over ≡ is_some cause → cause_of h (with_raws [] cause (nothing s)) ≡ option_or cause (end_fault s)
-end_cause s h None head over =
-    let e : Stream = s in
+end_cause : (s : Stream) (h : Header) (cause : Option CutFault) → s.head ≡ h → s.fault_told ≡ is_some cause → cause_of h (with_raws [] cause (nothing s)) ≡ option_or cause (end_fault s)
+end_cause s h None head fault_told =
     ap (λ (g : Header). if s.place.done == g.count then None else Some faults.Truncated) (sym head)
-    ∙ ap (λ (b : Bool). if b || (s.place.done == s.head.count) then None else Some faults.Truncated) (sym over)
-end_cause s h (Some f) head over = refl
+    ∙ ap (λ (b : Bool). if b || (s.place.done == s.head.count) then None else Some faults.Truncated) (sym fault_told)
+end_cause s h (Some f) head fault_told = refl
 
-nothing_left : (cause : Option CutFault) (s : Stream) (left : List ℕ) → s.over ≡ is_some cause → (cause ≡ None → given s [] ≡ nothing s) → (cause ≡ None → left ≡ []) → given s left ≡ nothing s
-nothing_left None s left over settled none = ap (given s) (none refl) ∙ settled refl
-nothing_left (Some f) s left over settled none = over_nothing s left over
+nothing_left : (cause : Option CutFault) (s : Stream) (left : List ℕ) → s.fault_told ≡ is_some cause → (cause ≡ None → given s [] ≡ nothing s) → (cause ≡ None → left ≡ []) → given s left ≡ nothing s
+nothing_left None s left fault_told settled none = ap (given s) (none refl) ∙ settled refl
+nothing_left (Some f) s left fault_told settled none = told_nothing s left fault_told
 
 at_end : (o : Option (List ℕ)) (log : OpenLog) (bytes : List ℕ) → o ≡ Some bytes → log.length ≡ length bytes → IsAtEnd o log → drop log.offset bytes ≡ []
 at_end None log bytes is size end = absurd (cc)
@@ -308,12 +304,12 @@ at_end (Some found) log bytes is size end = let same : found ≡ bytes = cc in s
 
 ends_in : (logs : ℕ → Option (List ℕ)) (registry : List LogEntry) (place front : Place) (log : OpenLog) (ended : Option CutFault) → (o : IsOpen registry front [] log) → AreOf logs registry → option_or log.cause (end_fault log.cutter) ≡ ended →
     (log.cause ≡ None → IsAtEnd (logs front.seq) log) → IsInStep logs registry place front [] (Some log) →
-    ahead logs registry place ≡ fault_ahead ended (front.rec + 1) (later_logs logs front.seq o.later front.rec)
+    ahead logs registry place ≡ unless_broken ended (front.rec + 1) (later_logs logs front.seq o.later front.rec)
 ends_in logs registry place front log ended o of cause end s =
     let b = open_bytes logs registry front [] log o of in
     let cont : Continues front [] log b.bytes = continues front [] log (logs front.seq) b.bytes b.is s.gives in
     let h : Header = o.entry.head in
-    let left : given log.cutter (drop log.offset b.bytes) ≡ nothing log.cutter = nothing_left log.cause log.cutter (drop log.offset b.bytes) o.over o.settled (λ none. at_end (logs front.seq) log b.bytes b.is b.long (end none)) in
+    let left : given log.cutter (drop log.offset b.bytes) ≡ nothing log.cutter = nothing_left log.cause log.cutter (drop log.offset b.bytes) o.fault_told o.settled (λ none. at_end (logs front.seq) log b.bytes b.is b.long (end none)) in
     let cut : cut_off h (h.count - front.done) (in_its_log front) (drop front.at b.bytes) ≡ with_raws [] log.cause (nothing log.cutter) =
     subst (λ (g : Header). cut_off g (g.count - front.done) (in_its_log front) (drop front.at b.bytes) ≡ with_raws [] log.cause (nothing log.cutter)) o.head (cont ∙ ap (with_raws [] log.cause) left) in
     let later = later_logs logs front.seq o.later in
@@ -321,12 +317,12 @@ ends_in logs registry place front log ended o of cause end s =
     let less : log.cutter.place.rec - 1 ≡ front.rec = omega (arith, rec) in
     s.same ∙ ahead_open logs registry front o.entry o.later b.bytes o.from o.seq b.is
     ∙ ap (gives_ahead h later) cut
-    ∙ (λ i. unless_broken (end_cause log.cutter h log.cause o.head o.over i) (rec i) (later (less i)))
+    ∙ (λ i. unless_broken (end_cause log.cutter h log.cause o.head o.fault_told i) (rec i) (later (less i)))
     ∙ ap (λ (c : Option CutFault). unless_broken c (front.rec + 1) (later front.rec)) cause
 
 ends_told : (known : Option (ℕ → Option (List ℕ))) (registry : List LogEntry) (place front : Place) (log : OpenLog) (ended : Option CutFault) → (o : IsOpen registry front [] log) → option_or log.cause (end_fault log.cutter) ≡ ended →
     Told known (λ logs. log.cause ≡ None → IsAtEnd (logs front.seq) log) → Told known (λ logs. AreOf logs registry → IsInStep logs registry place front [] (Some log)) →
-    Told known (λ logs. AreOf logs registry → ahead logs registry place ≡ fault_ahead ended (front.rec + 1) (later_logs logs front.seq o.later front.rec))
+    Told known (λ logs. AreOf logs registry → ahead logs registry place ≡ unless_broken ended (front.rec + 1) (later_logs logs front.seq o.later front.rec))
 ends_told None registry place front log ended o cause end told = tt
 ends_told (Some logs) registry place front log ended o cause end told = λ of. ends_in logs registry place front log ended o of cause end (told of)
 
@@ -398,15 +394,15 @@ first_told : (known : Option (ℕ → Option (List ℕ))) (registry : List LogEn
 first_told None registry place = tt
 first_told (Some logs) registry place = λ of. record { same = refl; gives = tt }
 
-pub first_side : (known : Option (ℕ → Option (List ℕ))) (registry : List LogEntry) (place : Place) → place.rec + count_of registry < 2 ^ 63 → IsSide known registry (settled registry place) (settled registry place) [] None None
+pub first_side : (known : Option (ℕ → Option (List ℕ))) (registry : List LogEntry) (place : Place) → place.rec + count_of registry < 2 ^ 63 → IsSide known registry (clamped_place registry place) (clamped_place registry place) [] None None
 first_side known registry place room =
     let less = fewer place.seq registry in
-    let c : IsClosed registry (settled registry place) [] = record { none = refl; at = offset_is place.at; done = within_is (entry_of place.seq registry) place.done; room = omega (arith, less, room) } in
-    record { reading = record { rec = refl; at = c; told = first_told known registry (settled registry place) }; ended = tt }
+    let c : IsClosed registry (clamped_place registry place) [] = record { none = refl; at = offset_is place.at; done = within_is (entry_of place.seq registry) place.done; room = omega (arith, less, room) } in
+    record { reading = record { rec = refl; at = c; told = first_told known registry (clamped_place registry place) }; ended = tt }
 
-ended_told : (known : Option (ℕ → Option (List ℕ))) (registry : List LogEntry) (place front : Place) (waiting : List Raw) (e : Ended) → Told known (λ logs. AreOf logs registry → IsInStep logs registry place front waiting None) → ((logs : ℕ → Option (List ℕ)) → ahead logs registry front ≡ nothing_but (stop_of e)) → EndsAt known registry place e
+ended_told : (known : Option (ℕ → Option (List ℕ))) (registry : List LogEntry) (place front : Place) (waiting : List Raw) (e : RedoEnd) → Told known (λ logs. AreOf logs registry → IsInStep logs registry place front waiting None) → ((logs : ℕ → Option (List ℕ)) → ahead logs registry front ≡ nothing_but (stop_of e)) → EndsAt known registry place e
 ended_told None registry place front waiting e told ends_so = tt
 ended_told (Some logs) registry place front waiting e told ends_so = λ of. (told of).same ∙ ends_so logs
 
-pub ends_closed : (known : Option (ℕ → Option (List ℕ))) (registry : List LogEntry) (place front : Place) (waiting : List Raw) (e : Ended) → IsReading known registry place front waiting None → ((logs : ℕ → Option (List ℕ)) → ahead logs registry front ≡ nothing_but (stop_of e)) → EndsAt known registry place e
+pub ends_closed : (known : Option (ℕ → Option (List ℕ))) (registry : List LogEntry) (place front : Place) (waiting : List Raw) (e : RedoEnd) → IsReading known registry place front waiting None → ((logs : ℕ → Option (List ℕ)) → ahead logs registry front ≡ nothing_but (stop_of e)) → EndsAt known registry place e
 ends_closed known registry place front waiting e r ends_so = ended_told known registry place front waiting e r.told ends_so

@@ -13,7 +13,7 @@ use Rattle.redo_vec.specs.Reading.{Fault, record_at}
 use Rattle.redo_spec.specs.declared.header.Header.{Header}
 use Rattle.redo_spec.specs.Redo.{Redo, ended}
 use Rattle.redo_wire.specs.declared.raw.Raw.{Raw}
-use Rattle.redo_wire.specs.declared.cutting.Place.{Place as LogPlace}
+use Rattle.redo_wire.specs.declared.cutting.LogPlace.{LogPlace}
 use Rattle.redo_wire.specs.Stream.{Cut, cut_off}
 use Rattle.redo_wire.specs.Records.{missing_after}
 use Rattle.log_registry.specs.declared.entry.LogEntry.{LogEntry}

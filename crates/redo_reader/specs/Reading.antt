@@ -17,19 +17,14 @@ pub record Reader (A : Type 0) : Type 0 where
   pub place : Place
   pub stop : Option Stop
 
--- how many records the logs have by their headers
-abbrev pub count_of : List LogEntry → ℕ
-count_of [] = 0
-count_of (e ∷ entries) = e.head.count + count_of entries
-
 -- no more records of a log before than it has
 abbrev pub done_within : Option LogEntry → ℕ → ℕ
 done_within None done = done
 done_within (Some e) done = if nat_le done e.head.count then done else e.head.count
 
 -- the place that is taken for this one
-abbrev pub settled : List LogEntry → Place → Place
-settled registry p = record {
+abbrev pub clamped_place : List LogEntry → Place → Place
+clamped_place registry p = record {
   seq = p.seq;
   at = if nat_le (2 ^ 62) p.at then 2 ^ 62 - 1 else p.at;
   done = done_within (entry_of p.seq registry) p.done;

@@ -8,15 +8,15 @@ use Rattle.rl_value.specs.declared.verdict.Stop.{Stop}
 use Rattle.rl_value.specs.declared.verdict.Stop.TheVariants as stops
 use Rattle.rl_ports.specs.Faults.{Told}
 use Rattle.redo_wire.specs.declared.raw.Raw.{Raw}
-use Rattle.redo_wire.specs.declared.cutting.Place.{Place as LogPlace}
-use Rattle.redo_wire.specs.Stream.{Cut as LogCut, behind as past, begun, cut_off, end_fault, fed, given, nothing}
+use Rattle.redo_wire.specs.declared.cutting.LogPlace.{LogPlace}
+use Rattle.redo_wire.specs.Stream.{Cut as LogCut, Stream, behind as past, begun, cut_off, end_fault, fed, given, joined, nothing}
 use Rattle.redo_wire.specs.Records.{AreFramed}
 use Rattle.log_registry.specs.declared.entry.LogEntry.{LogEntry}
-use Rattle.log_registry.specs.Registered.{AreOf, entry_of, entries_from}
+use Rattle.log_registry.specs.Registered.{AreOf, count_of, entry_of, entries_from}
 use Rattle.redo_reader.specs.declared.place.Place.{Place}
 use Rattle.redo_reader.specs.declared.progress.OpenLog.{OpenLog}
-use Rattle.redo_reader.specs.declared.progress.Ended.{Ended}
-use Rattle.redo_reader.specs.declared.progress.Ended.TheVariants as ends
+use Rattle.redo_reader.specs.declared.progress.RedoEnd.{RedoEnd}
+use Rattle.redo_reader.specs.declared.progress.RedoEnd.TheVariants as ends
 use Rattle.redo_reader.specs.declared.cut.Cut.{Cut}
 use Rattle.redo_reader.specs.declared.cut.Cut.TheVariants as cuts
 use Rattle.redo_reader.specs.declared.progress.Found.{Found}
@@ -26,10 +26,9 @@ use Rattle.redo_reader.specs.declared.progress.Begun.TheVariants as begins
 use Rattle.redo_reader.specs.declared.progress.Look.{Look}
 use Rattle.redo_reader.specs.declared.progress.Look.TheVariants as looks
 use Rattle.redo_reader.specs.Ahead.{ahead, in_its_log, nothing_but}
-use Rattle.redo_reader.specs.Reading.{count_of}
 
 -- an end as callers see it
-abbrev pub stop_of : Ended → Stop
+abbrev pub stop_of : RedoEnd → Stop
 stop_of ends.Drained = stops.Drained
 stop_of (ends.Gap low high) = stops.Gap low high
 stop_of (ends.Broken rec fault) = stops.Malformed rec (CutCause fault)
@@ -66,7 +65,7 @@ pub record IsOpen (registry : List LogEntry) (front : Place) (waiting : List Raw
   pub size : log.length ≡ entry.length
   pub framed : AreFramed log.cutter.head (in_its_log front) waiting
   pub place : log.cutter.place ≡ behind_all (in_its_log front) waiting
-  pub over : log.cutter.over ≡ is_some log.cause
+  pub fault_told : log.cutter.fault_told ≡ is_some log.cause
   pub settled : log.cause ≡ None → given log.cutter [] ≡ nothing log.cutter
   pub done : front.done ≤ entry.head.count
   pub room : front.rec + (entry.head.count - front.done) + count_of later < 2 ^ 63
@@ -99,10 +98,10 @@ pub record IsReading (known : Option (ℕ → Option (List ℕ))) (registry : Li
   pub told : Told known (λ logs. AreOf logs registry → IsInStep logs registry place front waiting log)
 
 -- the same where an end was told: nothing else is ahead
-abbrev pub EndsAt : Option (ℕ → Option (List ℕ)) → List LogEntry → Place → Ended → Type 0
+abbrev pub EndsAt : Option (ℕ → Option (List ℕ)) → List LogEntry → Place → RedoEnd → Type 0
 EndsAt known registry place e = Told known (λ logs. AreOf logs registry → ahead logs registry place ≡ nothing_but (stop_of e))
 
-pub record IsSide (known : Option (ℕ → Option (List ℕ))) (registry : List LogEntry) (place front : Place) (waiting : List Raw) (log : Option OpenLog) (stop : Option Ended) : Type 0 where
+pub record IsSide (known : Option (ℕ → Option (List ℕ))) (registry : List LogEntry) (place front : Place) (waiting : List Raw) (log : Option OpenLog) (stop : Option RedoEnd) : Type 0 where
   pub reading : IsReading known registry place front waiting log
   pub ended : IfSome stop (EndsAt known registry place)
 
@@ -128,11 +127,16 @@ BeginsBy registry front (begins.End e) = (logs : ℕ → Option (List ℕ)) → 
 
 -- ---- a block is cut
 
+-- whatever follows this piece is given by the stream behind it
+abbrev pub GoesOn : Stream → List ℕ → Type 0
+GoesOn s piece = (rest : List ℕ) → given s (piece ++ rest) ≡ joined (given s piece) (given (fed s piece) rest)
+
 -- the log behind this piece, which gave these records
 pub record IsFed (old new : OpenLog) (piece : List ℕ) (raws : List Raw) : Type 0 where
   pub gave : raws ≡ (given old.cutter piece).raws
   pub cause : new.cause ≡ (given old.cutter piece).cause
   pub cutter : new.cutter ≡ fed old.cutter piece
+  pub on : GoesOn old.cutter piece
   pub framed : AreFramed old.cutter.head old.cutter.place raws
   pub offset : new.offset ≡ old.offset + length piece
   pub size : new.length ≡ old.length

@@ -11,9 +11,9 @@ ghost use Rattle.redo_reader.specs.Steps.{IsClosed, BeginsBy, IsReading, EndsAt,
 use crate::blocks::look_on;
 use crate::cut::CutError;
 use crate::place::Place;
-use crate::progress::{Begun, Ended, Found, Look, OpenLog, Progress, place_behind};
+use crate::progress::{Begun, Found, Look, OpenLog, ReadingState, RedoEnd, place_behind};
 use log_registry::{LogEntry, Next, Registry};
-use redo_wire::Cutter;
+use redo_wire::{Cutter, HEADER_LENGTH};
 use rl_ports::Archive;
 use std::alloc::Global;
 
@@ -38,8 +38,8 @@ fn begin(alloc: Global, registry: &Registry, front: Place) -> Begun
     ensures { BeginsBy registry.now front result }
 {
     match registry.next(front.seq) {
-        Next::End => Begun::End(Ended::Drained),
-        Next::Gap { low, high } => Begun::End(Ended::Gap { low, high }),
+        Next::End => Begun::End(RedoEnd::Drained),
+        Next::Gap { low, high } => Begun::End(RedoEnd::Gap { low, high }),
         Next::Log(entry) => Begun::Log(open_log(alloc, entry, front)),
     }
 }
@@ -48,48 +48,48 @@ fn begin(alloc: Global, registry: &Registry, front: Place) -> Begun
 fn step<A: Archive>(
     archive: &mut A,
     registry: &Registry,
-    at: &mut Progress,
-) -> Result<Option<Ended>, CutError>
-    requires none { into_iter_items at.old.waiting ≡ [] }
-    requires block { 0 < length at.old.block.items }
-    requires reading { IsReading (A.logs archive.old) registry.now at.old.place at.old.front (into_iter_items at.old.waiting) at.old.log }
-    ensures reading { IsReading (A.logs archive.new) registry.now at.new.place at.new.front (into_iter_items at.new.waiting) at.new.log }
-    ensures ends { IfOk result (λ end. IfSome end (EndsAt (A.logs archive.old) registry.now at.old.place)) }
-    ensures nearer { IfOk result (λ end. end ≡ None → distance at.new.front at.new.log < distance at.old.front at.old.log) }
-    ensures place { at.new.place ≡ at.old.place }
-    ensures block { 0 < length at.new.block.items }
+    reading: &mut ReadingState,
+) -> Result<Option<RedoEnd>, CutError>
+    requires none { into_iter_items reading.old.waiting ≡ [] }
+    requires block { 0 < length reading.old.block.items }
+    requires stands { IsReading (A.logs archive.old) registry.now reading.old.place reading.old.front (into_iter_items reading.old.waiting) reading.old.log }
+    ensures stands { IsReading (A.logs archive.new) registry.now reading.new.place reading.new.front (into_iter_items reading.new.waiting) reading.new.log }
+    ensures ends { IfOk result (λ end. IfSome end (EndsAt (A.logs archive.old) registry.now reading.old.place)) }
+    ensures nearer { IfOk result (λ end. end ≡ None → distance reading.new.front reading.new.log < distance reading.old.front reading.old.log) }
+    ensures place { reading.new.place ≡ reading.old.place }
+    ensures block { 0 < length reading.new.block.items }
     ensures logs { A.logs archive.new ≡ A.logs archive.old }
     ensures failed { IsErrOf result ArchiveFaulted → Rose (A.faults archive.old) (A.faults archive.new) }
     ensures count { A.faults archive.old ≤ A.faults archive.new }
 {
-    let Some(log) = &mut at.log else {
-        match begin(*at.block.allocator(), registry, at.front) {
+    let Some(log) = &mut reading.log else {
+        match begin(*reading.block.allocator(), registry, reading.front) {
             Begun::End(end) => return Ok(Some(end)),
             Begun::Log(log) => {
-                at.log = Some(log);
+                reading.log = Some(log);
                 return Ok(None);
             }
         }
     };
-    match look_on(archive, at.front.seq, log, &mut at.block)? {
+    match look_on(archive, reading.front.seq, log, &mut reading.block)? {
         Look::Raws(raws) => {
-            at.waiting = raws.into_iter();
+            reading.waiting = raws.into_iter();
             Ok(None)
         }
-        Look::LogEnd(Some(fault)) => Ok(Some(Ended::Broken {
-            rec: at.front.rec + 1,
+        Look::LogEnd(Some(fault)) => Ok(Some(RedoEnd::Broken {
+            rec: reading.front.rec + 1,
             fault,
         })),
         Look::LogEnd(None) => {
-            if at.front.seq == u32::MAX {
-                return Ok(Some(Ended::Drained));
+            if reading.front.seq == u32::MAX {
+                return Ok(Some(RedoEnd::Drained));
             }
-            at.log = None;
-            at.front = Place {
-                seq: at.front.seq + 1,
-                at: 40,
+            reading.log = None;
+            reading.front = Place {
+                seq: reading.front.seq + 1,
+                at: HEADER_LENGTH as u64,
                 done: 0,
-                rec: at.front.rec,
+                rec: reading.front.rec,
             };
             Ok(None)
         }
@@ -100,27 +100,27 @@ fn step<A: Archive>(
 pub(crate) fn advance<A: Archive>(
     archive: &mut A,
     registry: &Registry,
-    at: &mut Progress,
+    reading: &mut ReadingState,
 ) -> Result<Found, CutError>
-    requires block { 0 < length at.old.block.items }
-    requires reading { IsReading (A.logs archive.old) registry.now at.old.place at.old.front (into_iter_items at.old.waiting) at.old.log }
+    requires block { 0 < length reading.old.block.items }
+    requires stands { IsReading (A.logs archive.old) registry.now reading.old.place reading.old.front (into_iter_items reading.old.waiting) reading.old.log }
     ensures exact { Told (A.logs archive.old) (λ logs. AreOf logs registry.now →
-        IfOk result (λ found. Gives (cut_of found) (ahead logs registry.now at.old.place) (ahead logs registry.now at.new.place))) }
-    ensures next { IfOk result (λ found. LeadsOn (cut_of found) at.old.place at.new.place) }
-    ensures reading { IsReading (A.logs archive.new) registry.now at.new.place at.new.front (into_iter_items at.new.waiting) at.new.log }
-    ensures block { 0 < length at.new.block.items }
-    ensures unchanged { OnErr result (at.new.place ≡ at.old.place) }
+        IfOk result (λ found. Gives (cut_of found) (ahead logs registry.now reading.old.place) (ahead logs registry.now reading.new.place))) }
+    ensures next { IfOk result (λ found. LeadsOn (cut_of found) reading.old.place reading.new.place) }
+    ensures stands { IsReading (A.logs archive.new) registry.now reading.new.place reading.new.front (into_iter_items reading.new.waiting) reading.new.log }
+    ensures block { 0 < length reading.new.block.items }
+    ensures unchanged { OnErr result (reading.new.place ≡ reading.old.place) }
     ensures logs { A.logs archive.new ≡ A.logs archive.old }
     ensures failed { IsErrOf result ArchiveFaulted → Rose (A.faults archive.old) (A.faults archive.new) }
     ensures count { A.faults archive.old ≤ A.faults archive.new }
 {
     loop {
-        if let Some(raw) = at.waiting.next() {
-            at.place = place_behind(&raw);
-            at.front = at.place;
+        if let Some(raw) = reading.waiting.next() {
+            reading.place = place_behind(&raw);
+            reading.front = reading.place;
             return Ok(Found::Raw(raw));
         }
-        if let Some(end) = step(archive, registry, at)? {
+        if let Some(end) = step(archive, registry, reading)? {
             return Ok(Found::End(end));
         }
     }

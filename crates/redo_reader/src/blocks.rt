@@ -7,7 +7,7 @@ ghost use Rattle.redo_reader.specs.Steps.{IsFed, Shows};
 
 use crate::cut::CutError;
 use crate::progress::{Look, OpenLog};
-use redo_wire::Raw;
+use redo_wire::{Raw, pieces_do_not_matter};
 use rl_ports::{Archive, Failed};
 use rl_value::NoMemory;
 
@@ -37,6 +37,7 @@ fn feed(log: &mut OpenLog, piece: &[u8]) -> Result<Vec<Raw>, NoMemory>
     ensures fed { IfOk result (λ raws. IsFed log.old log.new piece.now raws.items) }
     ensures unchanged { OnErr result (log.new ≡ log.old) }
 {
+    pieces_do_not_matter();
     let fed = log.cutter.feed(piece)?;
     log.offset += piece.len() as u64;
     log.cause = fed.cause;
@@ -66,7 +67,7 @@ pub(crate) fn look_on<A: Archive>(
     block: &mut [u8],
 ) -> Result<Look, CutError>
     requires block { 0 < length block.old }
-    requires over { log.old.cutter.over ≡ is_some log.old.cause }
+    requires fault_told { log.old.cutter.fault_told ≡ is_some log.old.cause }
     ensures shows { IfOk result (Shows (A.logs archive.old) seq log.old log.new) }
     ensures size { length block.new ≡ length block.old }
     ensures unchanged { OnErr result (log.new ≡ log.old) }

@@ -1,4 +1,6 @@
 //! What a cut gives, and why it can be refused.
+ghost use Rattle.std.specs.Prelude.{◌≡◌, IfOk};
+
 use redo_wire::Raw;
 use rl_ports::Failed;
 use rl_value::{NoMemory, Stop};
@@ -10,6 +12,18 @@ pub enum Cut {
     Raw(Raw),
     /// What ends the redo: Drained, a gap, or a record that cannot be cut off.
     End(Stop),
+}
+
+impl Cut {
+    /// An equal one, which owns memory of its own.
+    pub fn copy(&self) -> Result<Cut, NoMemory>
+        ensures equal { IfOk result (λ cut. cut ≡ self.now) }
+    {
+        match self {
+            Cut::Raw(raw) => Ok(Cut::Raw(raw.copy()?)),
+            Cut::End(stop) => Ok(Cut::End(stop.copy()?)),
+        }
+    }
 }
 
 /// Why a cut was refused. The next call tries the same again.

@@ -10,7 +10,7 @@ use redo_wire::{pieces_do_not_matter, pieces_give_the_records};
 /// What is ahead of the first record of a log, decoded, is the redo of the registered logs from there on, where they
 /// are those that the archive tells.
 pub fn the_reader_gives_the_redo()
-    ensures { (logs : ℕ → Option (List ℕ)) (registry : List LogEntry) (seq rec : ℕ) → AreOf logs registry →
+    ensures redo { (logs : ℕ → Option (List ℕ)) (registry : List LogEntry) (seq rec : ℕ) → AreOf logs registry →
         redo_ahead logs registry (first_place seq rec) ≡ redo_from seq rec (told_logs logs (entries_from seq registry)) }
 {
     pieces_do_not_matter();

@@ -22,7 +22,7 @@ pub(crate) struct OpenLog {
 
 /// How far the reading has come. Between two logs none is open; the front is then where the next one is begun.
 #[derive(Drop)]
-pub(crate) struct Progress {
+pub(crate) struct ReadingState {
     /// Behind the last record that was given.
     pub place: Place,
     /// Before the next record. It stands in another log than the place where that one has given all.
@@ -35,7 +35,7 @@ pub(crate) struct Progress {
 
 /// What ends the redo. It is told again at each later cut.
 #[derive(Clone, Copy)]
-pub(crate) enum Ended {
+pub(crate) enum RedoEnd {
     Drained,
     Gap { low: u32, high: u32 },
     Broken { rec: u64, fault: CutFault },
@@ -45,14 +45,14 @@ pub(crate) enum Ended {
 #[derive(Drop)]
 pub(crate) enum Found {
     Raw(Raw),
-    End(Ended),
+    End(RedoEnd),
 }
 
 /// What comes at a front between two logs.
 #[derive(Drop)]
 pub(crate) enum Begun {
     Log(OpenLog),
-    End(Ended),
+    End(RedoEnd),
 }
 
 /// What a look into the open log gave.
@@ -64,13 +64,13 @@ pub(crate) enum Look {
 }
 
 /// The end as callers see it.
-pub(crate) fn told_stop(end: Ended) -> Stop
+pub(crate) fn told_stop(end: RedoEnd) -> Stop
     ensures { result ≡ stop_of end }
 {
     match end {
-        Ended::Drained => Stop::Drained,
-        Ended::Gap { low, high } => Stop::Gap { low, high },
-        Ended::Broken { rec, fault } => Stop::Malformed {
+        RedoEnd::Drained => Stop::Drained,
+        RedoEnd::Gap { low, high } => Stop::Gap { low, high },
+        RedoEnd::Broken { rec, fault } => Stop::Malformed {
             rec,
             cause: Cause::Cut(fault),
         },

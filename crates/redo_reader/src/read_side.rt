@@ -1,16 +1,16 @@
 //! The reading side: an archive, the registered logs, and how far they are read.
 ghost use Rattle.std.specs.Prelude.{◌≡◌, ◌≤◌, ◌<◌, ◌+◌, ◌^◌, IfOk, OnErr, IfErr, IfSome, IsErrOf, None, Ok};
 ghost use Rattle.rl_ports.specs.Faults.{Told, Rose};
-ghost use Rattle.log_registry.specs.Registered.{AreOf, entry_of};
+ghost use Rattle.log_registry.specs.Registered.{AreOf, count_of, entry_of};
 ghost use Rattle.redo_reader.specs.Ahead.{ahead};
-ghost use Rattle.redo_reader.specs.Reading.{count_of, done_within, settled, LeadsOn, told_end, Gives};
+ghost use Rattle.redo_reader.specs.Reading.{done_within, clamped_place, LeadsOn, told_end, Gives};
 ghost use Rattle.redo_reader.specs.declared.cut.CutError.TheVariants.{ArchiveFault as ArchiveFaulted};
 ghost use Rattle.redo_reader.specs.declared.cut.Cut.TheVariants.{End};
 
 use crate::advance::advance;
 use crate::cut::{Cut, CutError};
 use crate::place::Place;
-use crate::progress::{Ended, Found, Progress, told_stop};
+use crate::progress::{Found, ReadingState, RedoEnd, told_stop};
 use log_registry::{Next, Registry};
 use rl_ports::Archive;
 use rl_value::NoMemory;
@@ -28,8 +28,8 @@ const LAST_OFFSET: u64 = 0x3fff_ffff_ffff_ffff;
 pub struct ReadSide<A: Archive> {
     archive: A,
     registry: Registry,
-    at: Progress,
-    stop: Option<Ended>,
+    reading: ReadingState,
+    stop: Option<RedoEnd>,
 }
 
 impl<A: Archive> Model for ReadSide<A> {
@@ -41,14 +41,14 @@ impl<A: Archive> Model for ReadSide<A> {
 
     ghost Value = { Reader A };
 
-    ghost view = { λ r. record { archive = r.archive; registry = r.registry; place = r.at.place; stop = option_map stop_of r.stop } };
+    ghost view = { λ r. record { archive = r.archive; registry = r.registry; place = r.reading.place; stop = option_map stop_of r.stop } };
 
-    ghost invariant = { λ r. (0 < length r.at.block.items) × IsSide (A.logs r.archive) r.registry r.at.place r.at.front (into_iter_items r.at.waiting) r.at.log r.stop };
+    ghost invariant = { λ r. (0 < length r.reading.block.items) × IsSide (A.logs r.archive) r.registry r.reading.place r.reading.front (into_iter_items r.reading.waiting) r.reading.log r.stop };
 }
 
 // The place that is taken for this one.
-fn settle(registry: &Registry, place: Place) -> Place
-    ensures { result ≡ settled registry.now place }
+fn clamped(registry: &Registry, place: Place) -> Place
+    ensures { result ≡ clamped_place registry.now place }
 {
     let at = if place.at > LAST_OFFSET {
         LAST_OFFSET
@@ -92,17 +92,17 @@ impl<A: Archive> ReadSide<A> {
         place: Place,
     ) -> Result<ReadSide<A>, (NoMemory, A)>
         requires room { place.rec + count_of registry < 2 ^ 63 }
-        ensures begun { IfOk result (λ r. r ≡ record { archive = archive; registry = registry; place = settled registry place; stop = None }) }
+        ensures begun { IfOk result (λ r. r ≡ record { archive = archive; registry = registry; place = clamped_place registry place; stop = None }) }
         ensures back { IfErr result (λ e. e.1 ≡ archive) }
     {
         let Ok(block) = vec![in alloc; 0u8; BLOCK] else {
             return Err((NoMemory, archive));
         };
-        let place = settle(&registry, place);
+        let place = clamped(&registry, place);
         Ok(ReadSide {
             archive,
             registry,
-            at: Progress {
+            reading: ReadingState {
                 place,
                 front: place,
                 log: None,
@@ -132,7 +132,7 @@ impl<A: Archive> ReadSide<A> {
         if let Some(end) = self.stop {
             return Ok(Cut::End(told_stop(end)));
         }
-        match advance(&mut self.archive, &self.registry, &mut self.at)? {
+        match advance(&mut self.archive, &self.registry, &mut self.reading)? {
             Found::Raw(raw) => Ok(Cut::Raw(raw)),
             Found::End(end) => {
                 self.stop = Some(end);
@@ -143,7 +143,7 @@ impl<A: Archive> ReadSide<A> {
 
     /// Gives the archive back.
     pub fn into_archive(self) -> A
-        ensures { result ≡ self.archive }
+        ensures same { result ≡ self.archive }
     {
         self.archive
     }

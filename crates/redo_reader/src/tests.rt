@@ -1,6 +1,7 @@
+//! Readings of small logs: a gap, a record without its last byte, copies, and a fault at each of the archive's calls.
 ghost use Rattle.std.specs.Prelude.{◌≤◌, ◌<◌, ◌+◌, ◌*◌, ◌^◌, length, IfOk, None, false, refl};
 ghost use Rattle.rl_ports.specs.Faults.{HasCause};
-ghost use Rattle.redo_reader.specs.Reading.{count_of};
+ghost use Rattle.log_registry.specs.Registered.{count_of};
 
 use super::*;
 use log_registry::{LogEntry, Registry, inspect};
@@ -128,7 +129,6 @@ fn seen_of(cut: Result<Cut, CutError>) -> Seen {
     }
 }
 
-#[tactic(auto, using(crate::proofs::EntryLaws::count_with))]
 fn register(registry: &mut Registry, entry: LogEntry) -> Result<(), Fail>
     ensures { count_of registry.new ≤ count_of registry.old + 2 ^ 32 }
 {
@@ -225,6 +225,22 @@ fn a_record_without_its_last_byte_is_malformed(rt: HostRuntime) -> Result<(), Fa
     }
     for _ in 0..2 {
         assert_eq!(rt; seen_of(reader.cut()), Seen::Cut(5, CutFault::Truncated));
+    }
+    Ok(())
+}
+
+#[test]
+fn a_copy_tells_what_its_original_tells(rt: HostRuntime) -> Result<(), Fail> {
+    let mut reader = reader_of(rt.alloc(), &[2, 5], 200, 0, Place { seq: 2, ..START })?;
+    for want in [Seen::Record(1, 2), Seen::Record(2, 2), Seen::Missing(3, 4)] {
+        let Ok(cut) = reader.cut() else {
+            return Err(Fail::from("no memory"));
+        };
+        let Ok(copy) = cut.copy() else {
+            return Err(Fail::from("no memory"));
+        };
+        assert_eq!(rt; seen_of(Ok(copy)), want);
+        assert_eq!(rt; seen_of(Ok(cut)), want);
     }
     Ok(())
 }

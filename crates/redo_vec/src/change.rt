@@ -25,7 +25,7 @@ pub struct Change {
 impl Change {
     /// An equal one, which owns memory of its own.
     pub fn copy(&self) -> Result<Change, NoMemory>
-        ensures { IfOk result (λ change. change ≡ self.now) }
+        ensures equal { IfOk result (λ change. change ≡ self.now) }
     {
         Ok(Change {
             xid: self.xid,

@@ -25,7 +25,7 @@ pub struct Column {
 impl Column {
     /// An equal one, which owns memory of its own.
     pub fn copy(&self) -> Result<Column, NoMemory>
-        ensures { IfOk result (λ column. column ≡ self.now) }
+        ensures equal { IfOk result (λ column. column ≡ self.now) }
     {
         Ok(Column {
             name: self.name.copy()?,
@@ -57,8 +57,8 @@ impl Model for Columns {
 impl Columns {
     /// Keeps these columns. It takes no memory.
     pub fn of(items: Vec<Column>) -> Columns
-        requires { IsTrue (are_columns items.items) }
-        ensures { result ≡ items.items }
+        requires form { IsTrue (are_columns items.items) }
+        ensures same { result ≡ items.items }
     {
         Columns { items }
     }
@@ -81,7 +81,7 @@ impl Columns {
 
     /// An equal one, which owns memory of its own.
     pub fn copy(&self) -> Result<Columns, NoMemory>
-        ensures { IfOk result (λ columns. columns ≡ self.now) }
+        ensures equal { IfOk result (λ columns. columns ≡ self.now) }
     {
         match copied(&self.items) {
             Ok(items) => Ok(Columns { items }),

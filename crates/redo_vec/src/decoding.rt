@@ -101,8 +101,8 @@ fn decoded(alloc: Global, bytes: &[u8]) -> Result<RedoRec, DecodeFault>
     })
 }
 
-/// Decodes one record. The bytes are read once; what the record owns, texts and raw values, is all that is
-/// copied. The place of a fault counts from the record's first byte.
+/// Decodes one record. The bytes are read once, and only what the record owns is copied: texts, raw values, and the
+/// names and key columns of its tables. The place of a fault counts from the record's first byte.
 pub fn decode_record(alloc: Global, bytes: &[u8]) -> Result<RedoRec, DecodeFault>
     // The cutter takes all of these bytes as one record.
     requires cut { first_record bytes.now ≡ Ok (bytes.now, []) }

@@ -77,5 +77,5 @@ pub fn encode_record(alloc: Global, rec: &RedoRec) -> Result<Vec<u8>, NoMemory>
 /// Two records of one spelling are one record. So what is encoded and decoded comes back as it was, and so do
 /// the bytes of a record that is decoded and encoded.
 pub fn one_spelling()
-    ensures { (a b : RedoRec) → IsRecord a → IsRecord b → record_bytes a ≡ record_bytes b → a ≡ b }
+    ensures same { (a b : RedoRec) → IsRecord a → IsRecord b → record_bytes a ≡ record_bytes b → a ≡ b }
 {}

@@ -29,8 +29,8 @@ impl Model for KeyColumns {
 impl KeyColumns {
     /// Keeps these columns. It takes no memory.
     pub fn of(items: Vec<u8>) -> KeyColumns
-        requires { IsTrue (is_key_columns items.items) }
-        ensures { result ≡ items.items }
+        requires form { IsTrue (is_key_columns items.items) }
+        ensures same { result ≡ items.items }
     {
         KeyColumns { items }
     }
@@ -53,7 +53,7 @@ impl KeyColumns {
 
     /// An equal one, which owns memory of its own.
     pub fn copy(&self) -> Result<KeyColumns, NoMemory>
-        ensures { IfOk result (λ columns. columns ≡ self.now) }
+        ensures equal { IfOk result (λ columns. columns ≡ self.now) }
     {
         match self.items.clone() {
             Ok(items) => Ok(KeyColumns { items }),
@@ -83,8 +83,8 @@ impl Model for KeyLists {
 impl KeyLists {
     /// Keeps these keys, the primary key first. It takes no memory.
     pub fn of(items: Vec<KeyColumns>) -> KeyLists
-        requires { IsTrue (are_keys items.items) }
-        ensures { result ≡ items.items }
+        requires form { IsTrue (are_keys items.items) }
+        ensures same { result ≡ items.items }
     {
         KeyLists { items }
     }
@@ -107,7 +107,7 @@ impl KeyLists {
 
     /// An equal one, which owns memory of its own.
     pub fn copy(&self) -> Result<KeyLists, NoMemory>
-        ensures { IfOk result (λ keys. keys ≡ self.now) }
+        ensures equal { IfOk result (λ keys. keys ≡ self.now) }
     {
         match copied(&self.items) {
             Ok(items) => Ok(KeyLists { items }),

@@ -29,8 +29,8 @@ impl Model for Line30 {
 impl Line30 {
     /// Keeps these bytes. It takes no memory.
     pub fn of(bytes: Vec<u8>) -> Line30
-        requires { IsTrue (is_line30 bytes.items) }
-        ensures { result ≡ bytes.items }
+        requires form { IsTrue (is_line30 bytes.items) }
+        ensures same { result ≡ bytes.items }
     {
         Line30 { bytes }
     }
@@ -53,7 +53,7 @@ impl Line30 {
 
     /// An equal one, which owns memory of its own.
     pub fn copy(&self) -> Result<Line30, NoMemory>
-        ensures { IfOk result (λ line. line ≡ self.now) }
+        ensures equal { IfOk result (λ line. line ≡ self.now) }
     {
         match self.bytes.clone() {
             Ok(bytes) => Ok(Line30 { bytes }),

@@ -14,7 +14,7 @@ pub struct RedoRec {
 impl RedoRec {
     /// An equal one, which owns memory of its own.
     pub fn copy(&self) -> Result<RedoRec, NoMemory>
-        ensures { IfOk result (λ rec. rec ≡ self.now) }
+        ensures equal { IfOk result (λ rec. rec ≡ self.now) }
     {
         Ok(RedoRec {
             scn: self.scn,

@@ -19,7 +19,7 @@ pub struct TableRow {
 impl TableRow {
     /// An equal one, which owns memory of its own.
     pub fn copy(&self) -> Result<TableRow, NoMemory>
-        ensures { IfOk result (λ table. table ≡ self.now) }
+        ensures equal { IfOk result (λ table. table ≡ self.now) }
     {
         Ok(TableRow {
             id: self.id,

@@ -1,3 +1,4 @@
+//! Records of a first log with their fields, each fault at its place, and each kind of vector there and back.
 ghost use Rattle.std.specs.Prelude.{◌≡◌, ◌≤◌, length, IsTrue, IfOk, Ok, []};
 ghost use Rattle.redo_vec.specs.Spelling.{record_bytes};
 ghost use Rattle.redo_vec.specs.Cutting.{first_record};
@@ -142,6 +143,37 @@ fn a_text_of_501_bytes_is_refused_at_its_length(rt: HostRuntime) -> Result<(), F
         ),
         "{found:?}"
     );
+    Ok(())
+}
+
+// The insert of a first log with two or three of its bytes changed: a count, a column and a tag stand in its bytes 36 to 39.
+#[test]
+fn each_fault_is_told_at_its_place(rt: HostRuntime) -> Result<(), Fail> {
+    let cases = [
+        ((23, 10), (23, 10), (23, 10), VecFault::Kind, 23),
+        ((39, 4), (39, 4), (39, 4), VecFault::Tag, 39),
+        ((36, 33), (36, 33), (36, 33), VecFault::Cells, 36),
+        ((38, 32), (38, 32), (38, 32), VecFault::Cells, 38),
+        ((39, 2), (41, 6), (42, 0xff), VecFault::Utf8, 42),
+        ((39, 3), (40, 0), (41, 0), VecFault::Empty, 40),
+        ((39, 3), (40, 1), (41, 0xf5), VecFault::Size, 40),
+        ((39, 3), (40, 1), (41, 0xf4), VecFault::End, 48),
+        ((13, 3), (13, 3), (13, 3), VecFault::End, 48),
+        ((13, 1), (13, 1), (13, 1), VecFault::End, 23),
+    ];
+    for (first, second, third, fault, place) in cases {
+        let mut bytes = INSERT;
+        for (at, byte) in [first, second, third] {
+            if let Some(old) = bytes.get_mut(at) {
+                *old = byte;
+            }
+        }
+        let found = match decoded(&rt, rt.alloc(), &bytes) {
+            Err(DecodeFault::Vector { fault, place }) => Some((fault, place)),
+            _ => None,
+        };
+        assert_eq!(rt; found, Some((fault, place)));
+    }
     Ok(())
 }
 

@@ -22,7 +22,7 @@ pub enum Vector {
 impl Vector {
     /// An equal one, which owns memory of its own.
     pub fn copy(&self) -> Result<Vector, NoMemory>
-        ensures { IfOk result (λ vector. vector ≡ self.now) }
+        ensures equal { IfOk result (λ vector. vector ≡ self.now) }
     {
         match self {
             Vector::Start(xid) => Ok(Vector::Start(*xid)),
@@ -58,7 +58,7 @@ impl Vectors {
     pub fn of(items: Vec<Vector>) -> Vectors
         requires some { 1 ≤ length items.items }
         requires most { length items.items ≤ 255 }
-        ensures { result ≡ items.items }
+        ensures same { result ≡ items.items }
     {
         Vectors { items }
     }
@@ -83,7 +83,7 @@ impl Vectors {
 
     /// An equal one, which owns memory of its own.
     pub fn copy(&self) -> Result<Vectors, NoMemory>
-        ensures { IfOk result (λ vectors. vectors ≡ self.now) }
+        ensures equal { IfOk result (λ vectors. vectors ≡ self.now) }
     {
         match copied(&self.items) {
             Ok(items) => Ok(Vectors { items }),

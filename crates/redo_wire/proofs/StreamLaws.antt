@@ -9,27 +9,27 @@ use Rattle.rl_value.specs.declared.cause.CutFault.TheVariants as cuts
 use Rattle.redo_vec.specs.Cutting.{first_record}
 use Rattle.redo_spec.specs.declared.header.Header.{Header}
 use Rattle.redo_wire.specs.declared.raw.Raw.{Raw}
-use Rattle.redo_wire.specs.declared.cutting.Place.{Place}
-use Rattle.redo_wire.specs.Stream.{Cut, with_raw, cut_or, cut_off, behind, raw_at, Stream, nothing, given, over_after, fed, run_of, as_cut, joined, begun}
+use Rattle.redo_wire.specs.declared.cutting.LogPlace.{LogPlace}
+use Rattle.redo_wire.specs.Stream.{Cut, with_raw, cut_or, cut_off, behind, raw_at, Stream, nothing, given, told_after, fed, run_of, as_cut, joined, begun}
 use Rattle.redo_wire.proofs.FirstLaws.{first_more, length_more, count_fault_more, never_trailing}
 
 -- the stream that a cut leaves
 abbrev pub left_by : Header → Cut → Stream
-left_by h c = record { head = h; place = c.place; left = c.left; over = is_some c.cause }
+left_by h c = record { head = h; place = c.place; left = c.left; fault_told = is_some c.cause }
 
 -- after a fault nothing follows
-over_on : (h : Header) (p : Place) (f : CutFault) (b : List ℕ) → let c : Cut = record { raws = []; place = p; left = []; cause = Some f } in c ≡ joined c (given (left_by h c) b)
-over_on h p f b = refl
+told_on : (h : Header) (p : LogPlace) (f : CutFault) (b : List ℕ) → let c : Cut = record { raws = []; place = p; left = []; cause = Some f } in c ≡ joined c (given (left_by h c) b)
+told_on h p f b = refl
 
 -- a cut goes by the first record
-pub goes_by : (h : Header) (k : ℕ) (p : Place) (a : List ℕ) (r : Result (List ℕ × List ℕ) CutFault) → first_record a ≡ r
+pub goes_by : (h : Header) (k : ℕ) (p : LogPlace) (a : List ℕ) (r : Result (List ℕ × List ℕ) CutFault) → first_record a ≡ r
     → cut_off h (suc k) p a ≡ cut_or r p a (λ found rest. with_raw (raw_at h p found) (cut_off h k (behind p found) rest))
 goes_by h k p a r e = ap (λ (q : Result (List ℕ × List ℕ) CutFault). cut_or q p a (λ found rest. with_raw (raw_at h p found) (cut_off h k (behind p found) rest))) e
 
-abbrev Goes : Header → ℕ → Place → List ℕ → List ℕ → Type 0
+abbrev Goes : Header → ℕ → LogPlace → List ℕ → List ℕ → Type 0
 Goes h k p a b = cut_off h k p (a ++ b) ≡ joined (cut_off h k p a) (given (left_by h (cut_off h k p a)) b)
 
-more_step : (h : Header) (k : ℕ) (p : Place) (a b : List ℕ) → suc k ≡ h.count - p.done → ((q : Place) (c : List ℕ) → k ≡ h.count - q.done → Goes h k q c b) → (r : Result (List ℕ × List ℕ) CutFault) → first_record a ≡ r → Goes h (suc k) p a b
+more_step : (h : Header) (k : ℕ) (p : LogPlace) (a b : List ℕ) → suc k ≡ h.count - p.done → ((q : LogPlace) (c : List ℕ) → k ≡ h.count - q.done → Goes h k q c b) → (r : Result (List ℕ × List ℕ) CutFault) → first_record a ≡ r → Goes h (suc k) p a b
 more_step h k p a b e later (Ok x) is =
     let whole = goes_by h k p (a ++ b) (Ok (x.0, x.1 ++ b)) (first_more a b x is) in
     let part = goes_by h k p a (Ok x) is in
@@ -41,38 +41,38 @@ more_step h k p a b e later (Err cuts.Truncated) is =
 more_step h k p a b e later (Err cuts.Length) is =
     let whole = goes_by h k p (a ++ b) (Err cuts.Length) (length_more a b is) in
     let part = goes_by h k p a (Err cuts.Length) is in
-    whole ∙ over_on h p cuts.Length b ∙ sym (ap (λ (c : Cut). joined c (given (left_by h c) b)) part)
+    whole ∙ told_on h p cuts.Length b ∙ sym (ap (λ (c : Cut). joined c (given (left_by h c) b)) part)
 more_step h k p a b e later (Err cuts.Count) is =
     let whole = goes_by h k p (a ++ b) (Err cuts.Count) (count_fault_more a b is) in
     let part = goes_by h k p a (Err cuts.Count) is in
-    whole ∙ over_on h p cuts.Count b ∙ sym (ap (λ (c : Cut). joined c (given (left_by h c) b)) part)
+    whole ∙ told_on h p cuts.Count b ∙ sym (ap (λ (c : Cut). joined c (given (left_by h c) b)) part)
 more_step h k p a b e later (Err cuts.Trailing) is = absurd (never_trailing a is)
 
 -- more bytes behind those of a cut
-pub more : (h : Header) (k : ℕ) (p : Place) (a b : List ℕ) → k ≡ h.count - p.done → Goes h k p a b
+pub more : (h : Header) (k : ℕ) (p : LogPlace) (a b : List ℕ) → k ≡ h.count - p.done → Goes h k p a b
 more h zero p [] b e = ap (λ (n : ℕ). cut_off h n p b) e
 more h zero p (x ∷ a) b e = refl
 more h (suc k) p a b e = more_step h k p a b e (λ q c f. more h k q c b f) (first_record a) refl
 
-given_more_or : (h : Header) (p : Place) (left : List ℕ) (over : Bool) (a b : List ℕ) → let s : Stream = record { head = h; place = p; left = left; over = over } in given s (a ++ b) ≡ joined (given s a) (given (fed s a) b)
+given_more_or : (h : Header) (p : LogPlace) (left : List ℕ) (fault_told : Bool) (a b : List ℕ) → let s : Stream = record { head = h; place = p; left = left; fault_told = fault_told } in given s (a ++ b) ≡ joined (given s a) (given (fed s a) b)
 given_more_or h p left true a b = refl
 given_more_or h p left false a b = ap (cut_off h (h.count - p.done) p) (sym (append_assoc left a b)) ∙ more h (h.count - p.done) p (left ++ a) b refl
 
 -- bytes in two pieces give what they give in one
 pub given_more : (s : Stream) (a b : List ℕ) → given s (a ++ b) ≡ joined (given s a) (given (fed s a) b)
-given_more s a b = given_more_or s.head s.place s.left s.over a b
+given_more s a b = given_more_or s.head s.place s.left s.fault_told a b
 
-pub over_twice : (over : Bool) (c d : Option CutFault) → over_after over (option_or c d) ≡ over_after (over_after over c) d
-over_twice true c d = refl
-over_twice false None d = refl
-over_twice false (Some f) d = refl
+pub told_twice : (fault_told : Bool) (c d : Option CutFault) → told_after fault_told (option_or c d) ≡ told_after (told_after fault_told c) d
+told_twice true c d = refl
+told_twice false None d = refl
+told_twice false (Some f) d = refl
 
 -- and leave the same stream
 pub fed_more : (s : Stream) (a b : List ℕ) → fed s (a ++ b) ≡ fed (fed s a) b
 fed_more s a b =
     let e = given_more s a b in
-    ap (λ (c : Cut). record { head = s.head; place = c.place; left = c.left; over = over_after s.over c.cause }) e
-    ∙ ap (λ (o : Bool). record { head = s.head; place = (given (fed s a) b).place; left = (given (fed s a) b).left; over = o }) (over_twice s.over (given s a).cause (given (fed s a) b).cause)
+    ap (λ (c : Cut). record { head = s.head; place = c.place; left = c.left; fault_told = told_after s.fault_told c.cause }) e
+    ∙ ap (λ (o : Bool). record { head = s.head; place = (given (fed s a) b).place; left = (given (fed s a) b).left; fault_told = o }) (told_twice s.fault_told (given s a).cause (given (fed s a) b).cause)
 
 -- ---- any list of pieces
 
@@ -101,7 +101,7 @@ pieces_after s a (b ∷ pieces) =
     ∙ pieces_after s (a ++ b) pieces
     ∙ ap (given s) (append_assoc a b (concat pieces))
 
-at_begin : (h : Header) (k : ℕ) (p : Place) → cut_off h k p [] ≡ record { raws = []; place = p; left = []; cause = None }
+at_begin : (h : Header) (k : ℕ) (p : LogPlace) → cut_off h k p [] ≡ record { raws = []; place = p; left = []; cause = None }
 at_begin h zero p = refl
 at_begin h (suc k) p = refl
 
@@ -110,7 +110,7 @@ pub pieces_give : (h : Header) (rec at done : ℕ) (pieces : List (List ℕ)) �
 pieces_give h rec at done pieces =
     let s = begun h rec at done in
     let none : given (begun h rec at done) [] ≡ nothing (begun h rec at done) = at_begin h (h.count - done) (record { rec = rec; at = at; done = done }) in
-    let same : fed (begun h rec at done) [] ≡ begun h rec at done = ap (λ (c : Cut). record { head = h; place = c.place; left = c.left; over = is_some c.cause }) none in
+    let same : fed (begun h rec at done) [] ≡ begun h rec at done = ap (λ (c : Cut). record { head = h; place = c.place; left = c.left; fault_told = is_some c.cause }) none in
     sym (ap (λ (c : Cut). joined c (as_cut (run_of (begun h rec at done) pieces))) none)
     ∙ sym (ap (λ (t : Stream). joined (given (begun h rec at done) []) (as_cut (run_of t pieces))) same)
     ∙ pieces_after (begun h rec at done) [] pieces

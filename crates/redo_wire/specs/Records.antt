@@ -9,11 +9,11 @@ use Rattle.redo_vec.specs.Reading.{record_at}
 use Rattle.redo_spec.specs.declared.header.Header.{Header}
 use Rattle.redo_spec.specs.Redo.{Records, broken, decoded_or}
 use Rattle.redo_wire.specs.declared.raw.Raw.{Raw}
-use Rattle.redo_wire.specs.declared.cutting.Place.{Place}
+use Rattle.redo_wire.specs.declared.cutting.LogPlace.{LogPlace}
 use Rattle.redo_wire.specs.Stream.{Cut, behind}
 
 -- a record that was cut off at this place of the log with this header; the cutter takes its bytes as one record
-pub record IsFramed (h : Header) (p : Place) (raw : Raw) : Type 0 where
+pub record IsFramed (h : Header) (p : LogPlace) (raw : Raw) : Type 0 where
   pub rec : raw.rec ≡ p.rec
   pub head : raw.head ≡ h
   pub end : raw.end ≡ p.at + length raw.bytes
@@ -22,7 +22,7 @@ pub record IsFramed (h : Header) (p : Place) (raw : Raw) : Type 0 where
   pub whole : first_record raw.bytes ≡ Ok (raw.bytes, [])
 
 -- records that stand one behind the other from this place on
-abbrev pub AreFramed : Header → Place → List Raw → Type 0
+abbrev pub AreFramed : Header → LogPlace → List Raw → Type 0
 AreFramed h p [] = Unit {0}
 AreFramed h p (raw ∷ raws) = IsFramed h p raw × AreFramed h (behind p raw.bytes) raws
 

@@ -7,19 +7,19 @@ use Rattle.rl_value.specs.declared.cause.CutFault.TheVariants as cuts
 use Rattle.redo_vec.specs.Cutting.{first_record}
 use Rattle.redo_spec.specs.declared.header.Header.{Header}
 use Rattle.redo_wire.specs.declared.raw.Raw.{Raw}
-use Rattle.redo_wire.specs.declared.cutting.Place.{Place}
+use Rattle.redo_wire.specs.declared.cutting.LogPlace.{LogPlace}
 
 -- the place behind a record of these bytes
-abbrev pub behind : Place → List ℕ → Place
+abbrev pub behind : LogPlace → List ℕ → LogPlace
 behind p bytes = record { rec = p.rec + 1; at = p.at + length bytes; done = p.done + 1 }
 
-abbrev pub raw_at : Header → Place → List ℕ → Raw
+abbrev pub raw_at : Header → LogPlace → List ℕ → Raw
 raw_at h p bytes = record { rec = p.rec; head = h; end = p.at + length bytes; done = p.done + 1; bytes = bytes }
 
 -- the records that bytes give, the place behind them, the bytes that are left, and the first fault
 pub record Cut : Type 0 where
   pub raws : List Raw
-  pub place : Place
+  pub place : LogPlace
   pub left : List ℕ
   pub cause : Option CutFault
 
@@ -35,18 +35,18 @@ abbrev pub left_after : Option CutFault → List ℕ → List ℕ
 left_after None bytes = bytes
 left_after (Some fault) bytes = []
 
-abbrev pub stopped : CutFault → Place → List ℕ → Cut
+abbrev pub stopped : CutFault → LogPlace → List ℕ → Cut
 stopped fault p bytes = record { raws = []; place = p; left = left_after (told_of fault) bytes; cause = told_of fault }
 
 abbrev pub with_raw : Raw → Cut → Cut
 with_raw raw c = record { raws = raw ∷ c.raws; place = c.place; left = c.left; cause = c.cause }
 
-abbrev pub cut_or : Result (List ℕ × List ℕ) CutFault → Place → List ℕ → (List ℕ → List ℕ → Cut) → Cut
+abbrev pub cut_or : Result (List ℕ × List ℕ) CutFault → LogPlace → List ℕ → (List ℕ → List ℕ → Cut) → Cut
 cut_or (Err fault) p bytes next = stopped fault p bytes
 cut_or (Ok found) p bytes next = next found.0 found.1
 
 -- so many records off these bytes, and nothing behind them
-abbrev pub cut_off : Header → ℕ → Place → List ℕ → Cut
+abbrev pub cut_off : Header → ℕ → LogPlace → List ℕ → Cut
 cut_off h zero p [] = record { raws = []; place = p; left = []; cause = None }
 cut_off h zero p (b ∷ bytes) = stopped cuts.Trailing p (b ∷ bytes)
 cut_off h (suc count) p bytes = cut_or (first_record bytes) p bytes (λ found rest. with_raw (raw_at h p found) (cut_off h count (behind p found) rest))
@@ -56,18 +56,18 @@ cut_off h (suc count) p bytes = cut_or (first_record bytes) p bytes (λ found re
 -- the log's header, the place of the next record, the bytes that wait, and whether a fault was told
 pub record Stream : Type 0 where
   pub head : Header
-  pub place : Place
+  pub place : LogPlace
   pub left : List ℕ
-  pub over : Bool
+  pub fault_told : Bool
 
 -- the numbers of the records that may still come fit their fields
-pub record IsReady (h : Header) (p : Place) : Type 0 where
+pub record IsReady (h : Header) (p : LogPlace) : Type 0 where
   pub done : p.done ≤ h.count
   pub rec : p.rec + (h.count - p.done) < 2 ^ 64
   pub at : p.at + 65536 * (h.count - p.done) < 2 ^ 64
 
 abbrev pub begun : Header → ℕ → ℕ → ℕ → Stream
-begun h rec at done = record { head = h; place = record { rec = rec; at = at; done = done }; left = []; over = false }
+begun h rec at done = record { head = h; place = record { rec = rec; at = at; done = done }; left = []; fault_told = false }
 
 abbrev pub nothing : Stream → Cut
 nothing s = record { raws = []; place = s.place; left = s.left; cause = None }
@@ -78,15 +78,15 @@ given_or false s bytes = cut_off s.head (s.head.count - s.place.done) s.place (s
 
 -- what a stream gives for these bytes, which follow on those before; after a fault nothing
 abbrev pub given : Stream → List ℕ → Cut
-given s bytes = given_or s.over s bytes
+given s bytes = given_or s.fault_told s bytes
 
-abbrev pub over_after : Bool → Option CutFault → Bool
-over_after true cause = true
-over_after false cause = is_some cause
+abbrev pub told_after : Bool → Option CutFault → Bool
+told_after true cause = true
+told_after false cause = is_some cause
 
 -- the stream after these bytes
 abbrev pub fed : Stream → List ℕ → Stream
-fed s bytes = record { head = s.head; place = (given s bytes).place; left = (given s bytes).left; over = over_after s.over (given s bytes).cause }
+fed s bytes = record { head = s.head; place = (given s bytes).place; left = (given s bytes).left; fault_told = told_after s.fault_told (given s bytes).cause }
 
 -- the records of pieces one after the other, the first fault among them, and the stream behind them
 pub record Run : Type 0 where
@@ -110,4 +110,4 @@ as_cut r = record { raws = r.raws; place = r.stream.place; left = r.stream.left;
 
 -- what the end of the log's bytes tells: records are missing, unless a fault was told before
 abbrev pub end_fault : Stream → Option CutFault
-end_fault s = if s.over || (s.place.done == s.head.count) then None else Some cuts.Truncated
+end_fault s = if s.fault_told || (s.place.done == s.head.count) then None else Some cuts.Truncated

@@ -7,7 +7,7 @@ ghost use Rattle.std.specs.Prelude.{◌≡◌, ◌+◌, ◌-◌, ◌*◌, ◌≤
 ghost use Rattle.redo_wire.specs.Records.{AreFramed};
 ghost use Rattle.redo_wire.specs.Stream.{begun, given, fed, left_after, end_fault};
 
-use crate::cutting::{Place, Taken, taken_off};
+use crate::cutting::{LogPlace, Taken, taken_off};
 use crate::raw::{Fed, Raws};
 use redo_spec::Header;
 use rl_value::{CutFault, NoMemory};
@@ -18,9 +18,9 @@ use std::marker::Model;
 #[derive(Debug, Drop)]
 pub struct Cutter {
     head: Header,
-    place: Place,
+    place: LogPlace,
     left: Vec<u8>,
-    over: bool,
+    fault_told: bool,
 }
 
 impl Model for Cutter {
@@ -28,7 +28,7 @@ impl Model for Cutter {
 
     ghost Value = { Stream };
 
-    ghost view = { λ c. record { head = c.head; place = c.place; left = c.left.items; over = c.over } };
+    ghost view = { λ c. record { head = c.head; place = c.place; left = c.left.items; fault_told = c.fault_told } };
 
     ghost invariant = { λ c. IsReady c.head c.place };
 }
@@ -62,13 +62,13 @@ impl Cutter {
         requires done { done ≤ head.count }
         requires at { at < 2 ^ 63 }
         requires rec { rec + (head.count - done) < 2 ^ 64 }
-        ensures { result ≡ begun head rec at done }
+        ensures begun { result ≡ begun head rec at done }
     {
         Cutter {
             head,
-            place: Place { rec, at, done },
+            place: LogPlace { rec, at, done },
             left: Vec::new(alloc),
-            over: false,
+            fault_told: false,
         }
     }
 
@@ -83,7 +83,7 @@ impl Cutter {
         ensures unchanged { OnErr result (self.new ≡ self.old) }
     {
         let alloc = *self.left.allocator();
-        if self.over {
+        if self.fault_told {
             return Ok(Fed {
                 raws: Raws::of(Vec::new(alloc)),
                 cause: None,
@@ -107,7 +107,7 @@ impl Cutter {
                     return Err(NoMemory);
                 }
                 self.place = place;
-                self.over = cause.is_some();
+                self.fault_told = cause.is_some();
                 Ok(Fed {
                     raws: Raws::of(raws),
                     cause,
@@ -123,9 +123,9 @@ impl Cutter {
     /// What the end of the log's bytes tells: Truncated where they end before all of its records were cut, unless
     /// a fault was given before.
     pub fn finish(&self) -> Option<CutFault>
-        ensures { result ≡ end_fault self.now }
+        ensures exact { result ≡ end_fault self.now }
     {
-        if self.over || self.place.done == self.head.count {
+        if self.fault_told || self.place.done == self.head.count {
             None
         } else {
             Some(CutFault::Truncated)
@@ -134,14 +134,14 @@ impl Cutter {
 
     /// A cutter that goes on from here by itself.
     pub fn copy(&self) -> Result<Cutter, NoMemory>
-        ensures { IfOk result (λ cutter. cutter ≡ self.now) }
+        ensures equal { IfOk result (λ cutter. cutter ≡ self.now) }
     {
         match Vec::from_slice(*self.left.allocator(), self.left.as_slice()) {
             Ok(left) => Ok(Cutter {
                 head: self.head,
                 place: self.place,
                 left,
-                over: self.over,
+                fault_told: self.fault_told,
             }),
             Err(_) => Err(NoMemory),
         }

@@ -16,7 +16,7 @@ use std::alloc::Global;
 /// Where the next record of a log stands: its number, its offset in the log, and how many records of the log
 /// stand before it.
 #[derive(Clone, Copy, Debug, PartialEq, Eq)]
-pub(crate) struct Place {
+pub(crate) struct LogPlace {
     pub rec: u64,
     pub at: u64,
     pub done: u32,
@@ -49,7 +49,7 @@ pub(crate) fn first_of(bytes: &[u8]) -> Result<usize, CutFault>
 #[derive(Drop)]
 pub(crate) struct Taken {
     pub raws: Vec<Raw>,
-    pub place: Place,
+    pub place: LogPlace,
     pub used: usize,
     pub cause: Option<CutFault>,
 }
@@ -66,7 +66,7 @@ fn told(fault: CutFault) -> Option<CutFault>
     }
 }
 
-fn raw_of(alloc: Global, head: Header, place: Place, bytes: &[u8]) -> Result<Raw, NoMemory>
+fn raw_of(alloc: Global, head: Header, place: LogPlace, bytes: &[u8]) -> Result<Raw, NoMemory>
     requires at { place.at + length bytes.now < 2 ^ 64 }
     requires done { place.done + 1 < 2 ^ 32 }
     ensures { IfOk result (λ raw. raw ≡ raw_at head place bytes.now) }
@@ -87,7 +87,7 @@ fn raw_of(alloc: Global, head: Header, place: Place, bytes: &[u8]) -> Result<Raw
 pub(crate) fn taken_off(
     alloc: Global,
     head: Header,
-    start: Place,
+    start: LogPlace,
     bytes: &[u8],
 ) -> Result<Taken, NoMemory>
     requires { IsReady head start }
@@ -106,7 +106,7 @@ pub(crate) fn taken_off(
                 if raws.push(raw).is_err() {
                     return Err(NoMemory);
                 }
-                place = Place {
+                place = LogPlace {
                     rec: place.rec + 1,
                     at: place.at + size as u64,
                     done: place.done + 1,

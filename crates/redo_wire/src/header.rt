@@ -13,6 +13,9 @@ use crate::numbers::{u16_in, u32_in, u64_in};
 use redo_spec::Header;
 use rl_value::HeadFault;
 
+/// A header's length in bytes.
+pub const HEADER_LENGTH: usize = 40;
+
 fn header_of(bytes: &[u8]) -> Header
     ensures { result ≡ header_in bytes.now }
 {
@@ -36,7 +39,7 @@ fn fault_of(bytes: &[u8], seq: u32) -> Option<HeadFault>
     ensures { result ≡ header_fault seq bytes.now }
 {
     let head = header_of(bytes);
-    if bytes.len() < 40 {
+    if bytes.len() < HEADER_LENGTH {
         return Some(HeadFault::Short);
     }
     if !has_magic(bytes) {

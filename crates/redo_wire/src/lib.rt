@@ -9,7 +9,7 @@ mod pieces;
 mod raw;
 
 pub use cutter::Cutter;
-pub use header::read_header;
+pub use header::{HEADER_LENGTH, read_header};
 pub use pieces::{pieces_do_not_matter, pieces_give_the_records};
 pub use raw::{Fed, Raw, Raws};
 pub use redo_spec::Header;

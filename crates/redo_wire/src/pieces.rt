@@ -22,7 +22,7 @@ pub fn pieces_do_not_matter()
 /// The records of a log, behind `done` of them, are those that its pieces give, decoded. They end with the fault that
 /// a piece or the end of the bytes tells, unless a record does not decode before.
 pub fn pieces_give_the_records()
-    ensures { (h : Header) (rec at done : ℕ) (pieces : List (List ℕ)) → done ≤ h.count →
+    ensures records { (h : Header) (rec at done : ℕ) (pieces : List (List ℕ)) → done ≤ h.count →
         let run = run_of (begun h rec at done) pieces in
         records_in h (h.count - done) (concat pieces) ≡ decoded run.raws (option_or run.cause (end_fault run.stream)) }
 {}

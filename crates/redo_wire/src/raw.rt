@@ -23,7 +23,7 @@ pub struct Raw {
 impl Raw {
     /// A record equal to this one, with bytes of its own.
     pub fn copy(&self) -> Result<Raw, NoMemory>
-        ensures { IfOk result (λ raw. raw ≡ self.now) }
+        ensures equal { IfOk result (λ raw. raw ≡ self.now) }
     {
         Ok(Raw {
             rec: self.rec,
@@ -53,28 +53,28 @@ impl Model for Raws {
 impl Raws {
     /// Keeps these records. It takes no memory.
     pub fn of(items: Vec<Raw>) -> Raws
-        ensures { result ≡ items.items }
+        ensures same { result ≡ items.items }
     {
         Raws { items }
     }
 
     /// The records in order.
     pub fn items(&self) -> &[Raw]
-        ensures { result.now ≡ self.now }
+        ensures same { result.now ≡ self.now }
     {
         self.items.as_slice()
     }
 
     /// Gives the records away in order. It takes no memory.
     pub fn into_items(self) -> Vec<Raw>
-        ensures { result.items ≡ self }
+        ensures same { result.items ≡ self }
     {
         self.items
     }
 
     /// A list of records equal to these.
     pub fn copy(&self) -> Result<Raws, NoMemory>
-        ensures { IfOk result (λ raws. raws ≡ self.now) }
+        ensures equal { IfOk result (λ raws. raws ≡ self.now) }
     {
         match copied(&self.items) {
             Ok(items) => Ok(Raws { items }),
@@ -110,7 +110,7 @@ pub struct Fed {
 impl Fed {
     /// The same records and fault again.
     pub fn copy(&self) -> Result<Fed, NoMemory>
-        ensures { IfOk result (λ fed. fed ≡ self.now) }
+        ensures equal { IfOk result (λ fed. fed ≡ self.now) }
     {
         Ok(Fed {
             raws: self.raws.copy()?,

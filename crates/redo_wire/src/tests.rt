@@ -1,3 +1,4 @@
+//! A first log: the first fault of its header and records, its records in pieces of each length, and copies.
 use super::*;
 use rl_value::{CutFault, HeadFault};
 use std::alloc::Global;

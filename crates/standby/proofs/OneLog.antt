@@ -17,7 +17,7 @@ use Rattle.log_registry.specs.declared.fault.RegFault.TheVariants as refusals
 use Rattle.log_registry.specs.Registered.{IsOf, AreOf, entries_from, entry_with, unless_refused, of_database, looked, inspected}
 use Rattle.redo_reader.specs.declared.place.Place.{Place}
 use Rattle.redo_reader.specs.Ahead.{redo_ahead, told_logs, first_place, bytes_or_none}
-use Rattle.redo_reader.specs.Reading.{settled, done_within}
+use Rattle.redo_reader.specs.Reading.{clamped_place, done_within}
 use Rattle.primary.specs.declared.plain.Plain.{Plain}
 use Rattle.primary.specs.declared.plain.Folded.{Folded as Plainly}
 use Rattle.primary.specs.Progress.{Progress, after_records, end_of}
@@ -71,8 +71,8 @@ first_done : (b : Bool) (e : LogEntry) → done_within (if b then Some e else No
 first_done true e = not_below e.head.count
 first_done false e = refl
 
-settled-first : (e : LogEntry) → settled (e ∷ []) (first_place e.head.seq 0) ≡ first_place e.head.seq 0
-settled-first e = ap (λ (n : ℕ). let p : Place = record { seq = e.head.seq; at = 40; done = n; rec = 0 } in p) (first_done (e.head.seq == e.head.seq) e)
+clamped-first : (e : LogEntry) → clamped_place (e ∷ []) (first_place e.head.seq 0) ≡ first_place e.head.seq 0
+clamped-first e = ap (λ (n : ℕ). let p : Place = record { seq = e.head.seq; at = 40; done = n; rec = 0 } in p) (first_done (e.head.seq == e.head.seq) e)
 
 not_less : (n : ℕ) → nat_lt n n ≡ false
 not_less n = grind (arith, nat_tests)
@@ -118,12 +118,12 @@ FoldsAhead known registry place seq base r = Told known (λ logs. AreOf logs reg
 
 -- the fold of what the reading side gives from the first record on is that of the log
 pub fold-of_entry : GivesTheRedo → (known : Logs) (e : LogEntry) (registry : List LogEntry) (place : Place) (base : ℕ) (r : Result Plainly FoldFault) →
-    registry ≡ e ∷ [] → place ≡ settled (e ∷ []) (first_place e.head.seq 0) → base ≡ e.head.first - 1 → FoldsAhead known registry place e.head.seq base r →
+    registry ≡ e ∷ [] → place ≡ clamped_place (e ∷ []) (first_place e.head.seq 0) → base ≡ e.head.first - 1 → FoldsAhead known registry place e.head.seq base r →
     Told known (λ logs. IsOf logs e → IfOk r (λ f. shown f ≡ fold_of_log e.head.seq (logs e.head.seq)))
 fold-of_entry gives None e registry place base r one first before folds = tt
 fold-of_entry gives (Some logs) e registry place base r one first before folds =
     λ is.
-    let here : place ≡ first_place e.head.seq 0 = first ∙ settled-first e in
+    let here : place ≡ first_place e.head.seq 0 = first ∙ clamped-first e in
     let are : AreOf logs registry = subst (AreOf logs) (sym one) (is, tt) in
     let redo : redo_ahead logs registry place ≡ redo_from e.head.seq 0 ((e.head.seq, bytes_or_none (logs e.head.seq)) ∷ []) = (λ i. redo_ahead logs (one i) (here i)) ∙ redo_of_log gives logs e is in
     let a : Folded = fold_of_redo e.head.seq base (redo_ahead logs registry place).entries (redo_ahead logs registry place).stop in

@@ -8,12 +8,12 @@ invariant-loop-raw g l =
     let logs = g.A.Archive.logs in
     let faults = g.A.Archive.faults in
     record {
-      block : 0 < length l.at.block.items;
-      reading : IsReading (logs l.archive) l.registry l.at.place l.at.front (into_iter_items l.at.waiting) l.at.log;
-      place : l.at.place ≡ l.fn.at.place;
+      block : 0 < length l.reading.block.items;
+      reading : IsReading (logs l.archive) l.registry l.reading.place l.reading.front (into_iter_items l.reading.waiting) l.reading.log;
+      place : l.reading.place ≡ l.fn.reading.place;
       same : logs l.archive ≡ logs l.fn.archive;
       later : faults l.fn.archive ≤ faults l.archive;
     }
 
 abbrev pub decreases-loop-raw : goal.decreases-loop-raw
-decreases-loop-raw g l = distance l.at.front l.at.log
+decreases-loop-raw g l = distance l.reading.front l.reading.log

@@ -1,5 +1,5 @@
 use Rattle.std.proofs.Common.{◌≤◌, ◌*◌, ◌^◌}
-use Rattle.redo_reader.specs.Reading.{count_of}
+use Rattle.log_registry.specs.Registered.{count_of}
 use Rattle.redo_reader.proofs.tests.registry_of.Given as goal
 
 abbrev pub invariant-loop-seq : goal.invariant-loop-seq
