@@ -16,7 +16,8 @@ use Rattle.redo_vec.specs.declared.table.TableRow.{TableRow}
 use Rattle.redo_spec.specs.Dictionary.{table_of}
 use Rattle.redo_spec.specs.Tables.{Rows, RowsById, Table, Tables, rows_by, assembled, definitions_of, owner_in, row_count}
 use Rattle.row_apply.specs.declared.writes.Write.{Write}
-use Rattle.row_apply.specs.Found.{rows_of, found_in, key_columns, owner_of}
+use Rattle.redo_spec.specs.Work.{rows_of, row_at}
+use Rattle.row_apply.specs.Found.{key_columns, owner_of}
 use Rattle.row_apply.specs.Overlaid.{write_row, rows_after, overlaid}
 use Rattle.primary.specs.ById.{table_in, with_row, put_beside, without_row, take_from, written_beside, written_all}
 use Rattle.primary.proofs.MapLemmas.{rows_by_is, find_is_lookup, put_is_insert}
@@ -40,8 +41,8 @@ rows_of_assembled [] by id there = absurd (cc)
 rows_of_assembled (t ∷ ts) by id there =
     found_case (t.id == id) t (table_of ts id) (rows_of (assembled ts by) id) by id (equal_numbers t.id id) there (rows_of_assembled ts by id)
 
-pub found_in_assembled : (ts : List TableRow) (by : RowsById) (key : Key) → IsSome (table_of ts key.table) → found_in (assembled ts by) key ≡ entries.find row_cmp key.values (rows_by by key.table)
-found_in_assembled ts by key there = ap (λ rows. entries.find row_cmp key.values rows) (rows_of_assembled ts by key.table there)
+pub row_at_assembled : (ts : List TableRow) (by : RowsById) (key : Key) → IsSome (table_of ts key.table) → row_at (assembled ts by) key ≡ entries.find row_cmp key.values (rows_by by key.table)
+row_at_assembled ts by key there = ap (λ rows. entries.find row_cmp key.values rows) (rows_of_assembled ts by key.table there)
 
 owner_case : (b : Bool) (t u : TableRow) (o : Option TableRow) (rest : Option (List Value)) (by : RowsById) (key : Key) → (b ≡ true → t.id ≡ key.table) → cond b (Some t) o ≡ Some u →
     (o ≡ Some u → rest ≡ owner_in (rows_by by key.table) (key_columns u key.index) key.values) →

@@ -5,7 +5,8 @@ ghost use Rattle.std.specs.Option.{option_copied};
 ghost use Rattle.redo_spec.specs.ConflictKeys.{is_null};
 ghost use Rattle.redo_spec.specs.Dictionary.{table_of};
 ghost use Rattle.redo_spec.specs.Tables.{Tables, definitions_of, assembled, rows_by, owner_in};
-ghost use Rattle.row_apply.specs.Found.{found_in, owner_of, key_columns};
+ghost use Rattle.redo_spec.specs.Work.{row_at};
+ghost use Rattle.row_apply.specs.Found.{owner_of, key_columns};
 ghost use Rattle.row_apply.specs.Soundness.{AreSound, AreSoundRows};
 ghost use Rattle.primary.specs.Unique.{IsIndexed, LeadsToRows};
 

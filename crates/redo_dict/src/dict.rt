@@ -42,7 +42,7 @@ impl Model for Dict {
 impl Dict {
     /// A dictionary without a table, whose end has not come. It takes no memory yet.
     pub fn new(alloc: Global) -> Dict
-        ensures { result ≡ no_dictionary }
+        ensures empty { result ≡ no_dictionary }
     {
         Dict {
             tables: Vec::new(alloc),
@@ -67,21 +67,21 @@ impl Dict {
 
     /// The dictionary is whole.
     pub fn finish(&mut self)
-        ensures { self.new ≡ dictionary_after self.old DictEnd }
+        ensures ended { self.new ≡ dictionary_after self.old DictEnd }
     {
         self.finished = true;
     }
 
     /// Whether the dictionary is whole.
     pub fn finished(&self) -> bool
-        ensures { result ≡ self.now.finished }
+        ensures value { result ≡ self.now.finished }
     {
         self.finished
     }
 
     /// The id of the table of this schema and name. None exactly where no such table was added.
     pub fn resolve(&self, schema: &Name, name: &Name) -> Option<u32>
-        ensures { result ≡ id_of self.now.tables schema.now name.now }
+        ensures found { result ≡ id_of self.now.tables schema.now name.now }
     {
         id_at(self.tables.as_slice(), schema.bytes(), name.bytes())
     }
@@ -105,7 +105,7 @@ impl Dict {
 
     /// Whether the dictionary accepts the change; else the first reason against it. It takes no memory.
     pub fn check_change(&self, change: &Change) -> Result<(), ChangeFault>
-        ensures { Accepts (change_fault self.now.tables change.now) result }
+        ensures exact { Accepts (change_fault self.now.tables change.now) result }
     {
         match table_at(self.tables.as_slice(), change.table) {
             None => Err(ChangeFault::NoTable),
@@ -115,8 +115,8 @@ impl Dict {
 
     /// Whether the row has as many values as the table has columns, and each fits its column.
     pub fn check_row(&self, id: u32, row: &Row) -> bool
-        requires { IsSome (table_of self.now.tables id) }
-        ensures { IfSome (table_of self.now.tables id) (λ t. result ≡ is_row_of t.columns row.now) }
+        requires there { IsSome (table_of self.now.tables id) }
+        ensures exact { IfSome (table_of self.now.tables id) (λ t. result ≡ is_row_of t.columns row.now) }
     {
         match table_at(self.tables.as_slice(), id) {
             None => false,
@@ -126,7 +126,7 @@ impl Dict {
 
     /// An equal dictionary.
     pub fn copy(&self) -> Result<Dict, NoMemory>
-        ensures { IfOk result (λ copy. copy ≡ self.now) }
+        ensures equal { IfOk result (λ copy. copy ≡ self.now) }
     {
         match copied(&self.tables) {
             Ok(tables) => Ok(Dict {

@@ -10,3 +10,4 @@ mod CellLaws
 mod KeySetLaws
 mod BeganLaws
 mod CopyLaws
+mod Wanting

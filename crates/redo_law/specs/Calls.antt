@@ -1,12 +1,17 @@
 -- What the calls of a law say: where it begins, how a record is judged, and which transaction is open.
 -- Which record may follow is `record_fault` of redo_spec; want of memory judges nothing.
-use Rattle.std.specs.Prelude.{◌≡◌, ⊤, ℕ, List, [], Option, Some, None, Result, Ok, Err}
+use Rattle.std.specs.Prelude.{◌≡◌, ⊤, ℕ, ◌+◌, List, [], ◌∷◌, Bool, true, false, ◌&&◌, ◌||◌, Option, Some, None, is_none, Result, Ok, Err}
 use Rattle.std.specs.List.{find}
 use Rattle.std.specs.Option.{option_map}
 use Rattle.rl_value.specs.declared.cause.LawFault.{LawFault}
+use Rattle.rl_value.specs.declared.cause.LawFault.TheVariants as laws
 use Rattle.rl_value.specs.declared.xid.Xid.{Xid}
-use Rattle.redo_spec.specs.History.{same_xid}
-use Rattle.redo_spec.specs.Standing.{OpenTxn, Standing}
+use Rattle.redo_vec.specs.declared.vector.Vector.{Vector}
+use Rattle.redo_vec.specs.declared.vector.Vector.TheVariants.{Start, Change as OfChange, Undo, Commit, Rollback, Table, DictEnd}
+use Rattle.redo_spec.specs.declared.header.Header.{Header}
+use Rattle.redo_spec.specs.History.{Entry, same_xid}
+use Rattle.redo_spec.specs.Law.{vector_fault, whole_fault}
+use Rattle.redo_spec.specs.Standing.{OpenTxn, Standing, standing_after, entered}
 use Rattle.redo_law.specs.declared.start.LawStart.{LawStart}
 use Rattle.redo_law.specs.declared.fault.AdmitFault.{AdmitFault}
 use Rattle.redo_law.specs.declared.fault.AdmitFault.TheVariants as faults
@@ -39,3 +44,53 @@ start_rec x ts = option_map (λ t. t.start.rec) (open_of x ts)
 abbrev pub Refuses : Option LawFault → AdmitFault → Type 0
 Refuses fault (faults.Law found) = fault ≡ Some found
 Refuses fault faults.Memory = ⊤
+
+-- ---- where memory may want
+
+-- the call wants memory only where this holds
+abbrev pub OnWant : {T : Type 0} → Result T AdmitFault → Type 0 → Type 0
+OnWant (Ok done) P = ⊤
+OnWant (Err (faults.Law fault)) P = ⊤
+OnWant (Err faults.Memory) P = P
+
+-- a vector that takes memory
+abbrev pub takes_memory : Vector → Bool
+takes_memory (Start x) = true
+takes_memory (OfChange c) = true
+takes_memory (Undo x) = false
+takes_memory (Commit x) = false
+takes_memory (Rollback x) = false
+takes_memory (Table t) = true
+takes_memory DictEnd = false
+
+-- There is no reason against the vector, or one that is looked for with memory: a table is copied before it is tested, and
+-- the keys of a change before its locks and the count of changes are.
+abbrev pub may_want : Option LawFault → Bool
+may_want None = true
+may_want (Some laws.Chain) = false
+may_want (Some laws.Scn) = false
+may_want (Some laws.Alone) = false
+may_want (Some laws.Dictionary) = false
+may_want (Some laws.Twice) = true
+may_want (Some laws.Names) = true
+may_want (Some laws.Keys) = true
+may_want (Some laws.Limit) = true
+may_want (Some laws.OpenTwice) = false
+may_want (Some laws.NotOpen) = false
+may_want (Some laws.NoTable) = false
+may_want (Some laws.Columns) = false
+may_want (Some laws.Types) = false
+may_want (Some laws.Supplement) = false
+may_want (Some (laws.Lock key holder)) = true
+may_want (Some laws.Nothing) = false
+may_want (Some laws.OpenLimit) = true
+
+-- memory may want at one of these vectors, the first of which has this number, where none before it is refused
+abbrev pub may_want_in : Header → ℕ → List Vector → Standing → Bool
+may_want_in h vec [] s = false
+may_want_in h vec (v ∷ vs) s =
+    (takes_memory v && may_want (vector_fault h s v)) || (is_none (vector_fault h s v) && may_want_in h (vec + 1) vs (standing_after vec v s))
+
+-- memory may want at a vector of the record, which may follow as a whole
+abbrev pub wants_memory : Standing → Entry → Bool
+wants_memory s (h, r) = is_none (whole_fault s (h, r)) && may_want_in h 1 r.vectors (entered (h, r) s)

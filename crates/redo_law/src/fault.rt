@@ -1,5 +1,7 @@
 //! Why a record is not admitted.
-use rl_value::LawFault;
+ghost use Rattle.std.specs.Prelude.{◌≡◌, IfOk};
+
+use rl_value::{LawFault, NoMemory};
 
 /// Why a record is not admitted.
 #[derive(Debug, Drop)]
@@ -8,4 +10,16 @@ pub enum AdmitFault {
     Law(LawFault),
     /// Want of memory.
     Memory,
+}
+
+impl AdmitFault {
+    /// An equal one, which owns memory of its own.
+    pub fn copy(&self) -> Result<AdmitFault, NoMemory>
+        ensures equal { IfOk result (λ fault. fault ≡ self.now) }
+    {
+        match self {
+            AdmitFault::Law(fault) => Ok(AdmitFault::Law(fault.copy()?)),
+            AdmitFault::Memory => Ok(AdmitFault::Memory),
+        }
+    }
 }

@@ -2,10 +2,10 @@
 //!
 //! A record is tested as a whole first (the chain of logs, its SCN, COMMIT and ROLLBACK alone), and then vector by vector;
 //! the first cause counts. No change may touch a key that a surviving change of another open transaction touches.
-ghost use Rattle.std.specs.Prelude.{◌≡◌, ◌+◌, ◌<◌, ◌^◌, OnOk, IfOk, IfErr};
+ghost use Rattle.std.specs.Prelude.{◌≡◌, ◌+◌, ◌<◌, ◌^◌, OnOk, IfOk, IfErr, IsTrue};
 ghost use Rattle.redo_spec.specs.Standing.{Standing, record_after};
 ghost use Rattle.redo_spec.specs.Law.{record_fault, dictionary_left};
-ghost use Rattle.redo_law.specs.Calls.{standing_of, Judges, Leaves, start_rec};
+ghost use Rattle.redo_law.specs.Calls.{standing_of, Judges, Leaves, OnWant, wants_memory, start_rec};
 
 use crate::fault::AdmitFault;
 use crate::start::LawStart;
@@ -60,7 +60,7 @@ impl Law {
 
     /// An equal one, which owns memory of its own.
     pub fn copy(&self) -> Result<Law, NoMemory>
-        ensures { IfOk result (λ copy. copy ≡ self.now) }
+        ensures equal { IfOk result (λ copy. copy ≡ self.now) }
     {
         let state = self.state.copy()?;
         Ok(Law { state })
@@ -69,10 +69,11 @@ impl Law {
     /// Takes the next record of the redo, in a log of this header. After a refusal the law is spent: of its calls only
     /// `dict` and `into_dict` follow. They have then the tables of the vectors before the refused one.
     pub fn admit(&mut self, head: &Header, rec: &RedoRec) -> Result<(), AdmitFault>
-        requires { self.old.rec + 1 < 2 ^ 64 }
+        requires room { self.old.rec + 1 < 2 ^ 64 }
         ensures admitted { OnOk result (self.new ≡ record_after (head.now, rec.now) self.old) }
         ensures counted { OnOk result (self.new.rec ≡ self.old.rec + 1) }
         ensures exact { Judges (record_fault self.old (head.now, rec.now)) result }
+        ensures memory { OnWant result (IsTrue (wants_memory self.old (head.now, rec.now))) }
         ensures left { Leaves (dictionary_left self.old (head.now, rec.now)) self.new.dictionary result }
     {
         if let Err(fault) = self.state.admit(head, rec) {
@@ -85,21 +86,21 @@ impl Law {
 
     /// The record of the START of the open transaction of this id. None exactly where none is open.
     pub fn start_of(&self, xid: Xid) -> Option<u64>
-        ensures { result ≡ start_rec xid self.now.active }
+        ensures value { result ≡ start_rec xid self.now.active }
     {
         self.state.table.start_of(xid)
     }
 
     /// The dictionary that the records so far leave.
     pub fn dict(&self) -> &Dict
-        ensures { result.now ≡ self.now.dictionary }
+        ensures same { result.now ≡ self.now.dictionary }
     {
         &self.state.dict
     }
 
     /// Gives up the dictionary. It takes no memory.
     pub fn into_dict(self) -> Dict
-        ensures { result ≡ self.dictionary }
+        ensures same { result ≡ self.dictionary }
     {
         self.state.dict
     }

@@ -30,7 +30,7 @@ pub struct LawStart {
 impl LawStart {
     /// An equal one, which owns memory of its own.
     pub fn copy(&self) -> Result<LawStart, NoMemory>
-        ensures { IfOk result (λ copy. copy ≡ self.now) }
+        ensures equal { IfOk result (λ copy. copy ≡ self.now) }
     {
         Ok(LawStart {
             first: self.first,

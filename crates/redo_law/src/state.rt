@@ -2,7 +2,7 @@
 //!
 //! The tests of a vector stand in the order of their causes. A refused vector leaves the dictionary as it was; where memory
 //! is refused, the open transactions are no longer of use.
-ghost use Rattle.std.specs.Prelude.{◌≡◌, ◌+◌, ◌<◌, ◌≤◌, ◌^◌, ◌&&◌, ◌||◌, not, ℕ, nat_le, nat_lt, ◌==◌, OnOk, IfOk, IfErr, IfSome, length, [], ◌∷◌, Option, Some, None};
+ghost use Rattle.std.specs.Prelude.{◌≡◌, ◌≢◌, IsTrue, Err, ◌+◌, ◌<◌, ◌≤◌, ◌^◌, ◌&&◌, ◌||◌, not, ℕ, nat_le, nat_lt, ◌==◌, OnOk, IfOk, IfErr, IfSome, length, [], ◌∷◌, Option, Some, None};
 ghost use Rattle.std.specs.List.{list_any};
 ghost use Rattle.redo_vec.specs.declared.vector.Vector.TheVariants.{Start, Change as OfChange, Undo as OfUndo, Commit as OfCommit, Rollback as OfRollback, Table as OfTable, DictEnd as OfDictEnd};
 ghost use Rattle.redo_spec.specs.ChangeForm.{change_fault};
@@ -15,7 +15,7 @@ ghost use Rattle.redo_law.specs.Held.{kept_out};
 ghost use Rattle.redo_spec.specs.Standing.{is_open, standing_after, standing_after_all, survivor_count, record_after, with_open, touching};
 ghost use Rattle.redo_spec.specs.Law.{open_limit, record_fault, dictionary_left, breaks_chain, ends_txn, whole_fault, dictionary_fault, own_fault, vector_fault, vectors_fault, left_by_vectors, is_passed_over, nothing_survives, made_fault, unless};
 ghost use Rattle.redo_dict.specs.Refusals.{IsTableRefusal, change_reason};
-ghost use Rattle.redo_law.specs.Calls.{Judges, Leaves, Refuses};
+ghost use Rattle.redo_law.specs.Calls.{Judges, Leaves, Refuses, OnWant, takes_memory, may_want, may_want_in, wants_memory};
 ghost use Rattle.redo_law.specs.OpenTable.{IsTable, BeganBefore};
 ghost use Rattle.redo_law.specs.Seen.{seen, with_active, lock_told, IsReady};
 
@@ -147,7 +147,7 @@ impl State {
     }
 
     // Its START may stand before the records of this law.
-    fn is_known(&self) -> bool
+    fn may_have_begun_before(&self) -> bool
         ensures { result ≡ nat_le self.now.rec self.now.known }
     {
         self.rec <= self.known
@@ -159,6 +159,7 @@ impl State {
         ensures table { OnOk result (IsTable self.new.table) }
         ensures done { OnOk result (seen self.new ≡ standing_after vec (Start xid) (seen self.old)) }
         ensures exact { Judges (own_fault (seen self.old) (Start xid)) result }
+        ensures memory { OnWant result (IsTrue (may_want (own_fault (seen self.old) (Start xid)))) }
         ensures left { Leaves self.old.dict self.new.dict result }
     {
         if self.is_open(xid) {
@@ -216,6 +217,7 @@ impl State {
         ensures table { OnOk result (IsTable self.new.table) }
         ensures done { (vec : ℕ) → OnOk result (seen self.new ≡ standing_after vec (OfChange change.now) (seen self.old)) }
         ensures exact { Judges (made_fault (seen self.old) change.now) result }
+        ensures memory { OnWant result (IsTrue (may_want (made_fault (seen self.old) change.now))) }
         ensures left { Leaves self.old.dict self.new.dict result }
     {
         if let Err(fault) = self.dict.check_change(change) {
@@ -232,12 +234,13 @@ impl State {
         ensures table { OnOk result (IsTable self.new.table) }
         ensures done { OnOk result (seen self.new ≡ standing_after vec (OfChange change.now) (seen self.old)) }
         ensures exact { Judges (own_fault (seen self.old) (OfChange change.now)) result }
+        ensures memory { OnWant result (IsTrue (may_want (own_fault (seen self.old) (OfChange change.now)))) }
         ensures left { Leaves self.old.dict self.new.dict result }
     {
         if self.is_open(change.xid) {
             return self.make_change(change);
         }
-        if self.is_known() {
+        if self.may_have_begun_before() {
             return Ok(());
         }
         Err(AdmitFault::Law(LawFault::NotOpen))
@@ -248,9 +251,10 @@ impl State {
         ensures table { OnOk result (IsTable self.new.table) }
         ensures done { (vec : ℕ) → OnOk result (seen self.new ≡ standing_after vec (OfUndo xid) (seen self.old)) }
         ensures exact { Judges (own_fault (seen self.old) (OfUndo xid)) result }
+        ensures memory { result ≢ Err AdmitFault.Memory }
         ensures left { Leaves self.old.dict self.new.dict result }
     {
-        if !self.is_open(xid) && !self.is_known() {
+        if !self.is_open(xid) && !self.may_have_begun_before() {
             return Err(AdmitFault::Law(LawFault::NotOpen));
         }
         if self.table.nothing_survives(xid) {
@@ -265,9 +269,10 @@ impl State {
         ensures table { OnOk result (IsTable self.new.table) }
         ensures done { (vec : ℕ) → OnOk result (seen self.new ≡ standing_after vec (OfCommit xid) (seen self.old)) }
         ensures exact { Judges (own_fault (seen self.old) (OfCommit xid)) result }
+        ensures memory { result ≢ Err AdmitFault.Memory }
         ensures left { Leaves self.old.dict self.new.dict result }
     {
-        if !self.is_open(xid) && !self.is_known() {
+        if !self.is_open(xid) && !self.may_have_begun_before() {
             return Err(AdmitFault::Law(LawFault::NotOpen));
         }
         if self.scn <= self.commit_scn {
@@ -283,9 +288,10 @@ impl State {
         ensures table { OnOk result (IsTable self.new.table) }
         ensures done { (vec : ℕ) → OnOk result (seen self.new ≡ standing_after vec (OfRollback xid) (seen self.old)) }
         ensures exact { Judges (own_fault (seen self.old) (OfRollback xid)) result }
+        ensures memory { result ≢ Err AdmitFault.Memory }
         ensures left { Leaves self.old.dict self.new.dict result }
     {
-        if !self.is_open(xid) && !self.is_known() {
+        if !self.is_open(xid) && !self.may_have_begun_before() {
             return Err(AdmitFault::Law(LawFault::NotOpen));
         }
         self.table.close(xid);
@@ -297,6 +303,7 @@ impl State {
         ensures table { OnOk result (IsTable self.new.table) }
         ensures done { (vec : ℕ) → OnOk result (seen self.new ≡ standing_after vec (OfTable row.now) (seen self.old)) }
         ensures exact { Judges (own_fault (seen self.old) (OfTable row.now)) result }
+        ensures memory { OnWant result (IsTrue (may_want (own_fault (seen self.old) (OfTable row.now)))) }
         ensures left { Leaves self.old.dict self.new.dict result }
     {
         let Ok(row) = row.copy() else {
@@ -323,6 +330,7 @@ impl State {
         ensures table { OnOk result (IsTable self.new.table) }
         ensures done { OnOk result (seen self.new ≡ standing_after vec vector.now (seen self.old)) }
         ensures exact { Judges (own_fault (seen self.old) vector.now) result }
+        ensures memory { OnWant result (IsTrue (takes_memory vector.now && may_want (own_fault (seen self.old) vector.now))) }
         ensures left { Leaves self.old.dict self.new.dict result }
     {
         match vector {
@@ -348,6 +356,7 @@ impl State {
         ensures same { OnOk result (self.new.rec ≡ self.old.rec) }
         ensures done { OnOk result (seen self.new ≡ standing_after vec vector.now (seen self.old)) }
         ensures exact { Judges (vector_fault head.now (seen self.old) vector.now) result }
+        ensures memory { OnWant result (IsTrue (takes_memory vector.now && may_want (vector_fault head.now (seen self.old) vector.now))) }
         ensures left { Leaves self.old.dict self.new.dict result }
     {
         if self.is_misplaced(head, vector) {
@@ -365,6 +374,7 @@ impl State {
         ensures same { OnOk result (self.new.rec ≡ self.old.rec) }
         ensures done { OnOk result (seen self.new ≡ standing_after_all 1 vectors.now (seen self.old)) }
         ensures exact { Judges (vectors_fault head.now 1 vectors.now (seen self.old)) result }
+        ensures memory { OnWant result (IsTrue (may_want_in head.now 1 vectors.now (seen self.old))) }
         ensures left { Leaves (left_by_vectors head.now 1 vectors.now (seen self.old)) self.new.dict result }
     {
         let mut rest = vectors;
@@ -407,6 +417,7 @@ impl State {
         ensures counted { OnOk result (self.new.rec ≡ self.old.rec + 1) }
         ensures admitted { OnOk result (seen self.new ≡ record_after (head.now, rec.now) (seen self.old)) }
         ensures exact { Judges (record_fault (seen self.old) (head.now, rec.now)) result }
+        ensures memory { OnWant result (IsTrue (wants_memory (seen self.old) (head.now, rec.now))) }
         ensures left { Leaves (dictionary_left (seen self.old) (head.now, rec.now)) self.new.dict result }
     {
         if let Some(fault) = self.whole_refusal(head, rec) {

@@ -256,7 +256,7 @@ fn verdict(alloc: Global, dict: Dict, steps: &[Step]) -> Result<&'static str, Fa
     let mut rest = steps;
     while let [step, others @ ..] = rest {
         if let Err(fault) = law.admit(&head(), &rec_of(alloc, *step)?) {
-            return Ok(name_of(fault));
+            return Ok(name_of(fault.copy()?));
         }
         rest = others;
     }

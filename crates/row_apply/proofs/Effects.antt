@@ -13,7 +13,8 @@ use Rattle.redo_spec.specs.Dictionary.{table_of, ids_rise}
 use Rattle.redo_spec.specs.Tables.{Rows, Table, Tables, definitions_of, owner_in}
 use Rattle.redo_spec.specs.Effect.{effect_on, effect}
 use Rattle.row_apply.specs.declared.writes.Write.{Write}
-use Rattle.row_apply.specs.Found.{rows_of, owner_of, key_columns}
+use Rattle.redo_spec.specs.Work.{rows_of}
+use Rattle.row_apply.specs.Found.{owner_of, key_columns}
 use Rattle.row_apply.specs.Overlaid.{rows_after, table_after, overlaid}
 use Rattle.row_apply.specs.Soundness.{AreSoundRows, AreSound}
 use Rattle.row_apply.proofs.Fitting.{both}

@@ -16,7 +16,7 @@ use Rattle.rl_value.specs.declared.miss.Miss.{Miss}
 use Rattle.rl_value.specs.declared.miss.Miss.TheVariants.{Absent}
 use Rattle.redo_spec.specs.Tables.{Rows, Table, Tables, values_at, primary_key, definitions_of, named as named_key}
 use Rattle.row_apply.specs.Adding.{minus, goes, values_of, table_without, table_with}
-use Rattle.row_apply.specs.Found.{rows_of}
+use Rattle.redo_spec.specs.Work.{rows_of}
 use Rattle.row_apply.specs.Kept.{Slots, row_key, AreSlots, Sets, Puts, IsOf, IsFreeAmong, goes_at, rows_seen, table_seen}
 use Rattle.row_apply.specs.Soundness.{AreSoundRows, AreSound}
 use Rattle.row_apply.proofs.Adding.{WasAdded, was_added, sound-minus, sound-added}

@@ -14,3 +14,4 @@ pub mod Accepted
 pub mod Writing
 pub mod Whole
 pub mod Logged
+pub mod Untouched

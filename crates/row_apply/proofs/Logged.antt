@@ -20,11 +20,11 @@ use Rattle.redo_spec.specs.Effect.{logged_key}
 use Rattle.row_apply.proofs.Accepted.{accepted, holds}
 use Rattle.row_apply.proofs.Fitting.{both, either, three, room}
 
-left : (a b : Bool) → a ≡ true → (a || b) ≡ true
+pub left : (a b : Bool) → a ≡ true → (a || b) ≡ true
 left true b e = refl
 left false b e = absurd (cc)
 
-right : (a b : Bool) → b ≡ true → (a || b) ≡ true
+pub right : (a b : Bool) → b ≡ true → (a || b) ≡ true
 right true b e = refl
 right false b e = e
 
@@ -34,7 +34,7 @@ first_within : (n : ℕ) (keys : List (List ℕ)) → list_all (λ key. list_all
 first_within n [] e = refl
 first_within n (key ∷ keys) e = (both (list_all (λ c. nat_lt c n) key) (list_all (λ (k : List ℕ). list_all (λ c. nat_lt c n) k) keys) e).0
 
-primary_within : (t : TableRow) → has_bad_keys t ≡ false → list_all (λ c. nat_lt c (length t.columns)) (primary_of t) ≡ true
+pub primary_within : (t : TableRow) → has_bad_keys t ≡ false → list_all (λ c. nat_lt c (length t.columns)) (primary_of t) ≡ true
 primary_within t e =
     let inside = list_all (λ key. list_all (λ c. nat_lt c (length t.columns)) key) t.keys in
     let nulls = list_any (λ c. is_nullable (slice_get t.columns c)) (primary_of t) in
@@ -87,7 +87,7 @@ same_is (x ∷ xs) (y ∷ ys) e =
     λ i. here i ∷ rest i
 
 -- a column of the primary key is among the old cells of an accepted change that is no INSERT
-old_has : (t : TableRow) (c : Change) (op : Op) (p : ℕ) → op ≢ Insert → columns_rise 0 c.old ≡ true → beyond t c.old ≡ false → wrong_cells t op c.old c.new ≡ false → wrong_supplement t op c.old c.new ≡ false →
+pub old_has : (t : TableRow) (c : Change) (op : Op) (p : ℕ) → op ≢ Insert → columns_rise 0 c.old ≡ true → beyond t c.old ≡ false → wrong_cells t op c.old c.new ≡ false → wrong_supplement t op c.old c.new ≡ false →
     has_column (primary_of t) p ≡ true → p < length t.columns → has_column (columns_of c.old) p ≡ true
 old_has t c Insert p other r u shape logged first inside = absurd (other refl)
 old_has t c Update p other r u shape logged first inside =
@@ -102,7 +102,7 @@ old_has t c Delete p other r u shape logged first inside =
 
 -- ---- their values are a row
 
-cell_there : (cells : List (ℕ × Value)) (p : ℕ) → has_column (columns_of cells) p ≡ true → is_some (cell_at cells p) ≡ true
+pub cell_there : (cells : List (ℕ × Value)) (p : ℕ) → has_column (columns_of cells) p ≡ true → is_some (cell_at cells p) ≡ true
 cell_there [] p e = absurd (cc)
 cell_there ((column, value) ∷ cells) p e =
     elim (column == p) as (λ b. (b || has_column (columns_of cells) p) ≡ true → is_some (cond b (Some value) (cell_at cells p)) ≡ true) [

@@ -12,7 +12,8 @@ use Rattle.redo_spec.specs.ConflictKeys.{is_null}
 use Rattle.redo_spec.specs.Dictionary.{table_of}
 use Rattle.redo_spec.specs.Tables.{Tables, values_at, owner_in, definitions_of}
 use Rattle.row_apply.specs.declared.written.Written.{Written}
-use Rattle.row_apply.specs.Found.{rows_of, found_in, owner_of}
+use Rattle.redo_spec.specs.Work.{rows_of, row_at}
+use Rattle.row_apply.specs.Found.{owner_of}
 use Rattle.row_apply.specs.Kept.{Slots, Owners, row_key, unique_key, slot_at, owner_at, indexed_at, IsLive, AreSlots, AreIndexed, OneLive, rows_seen}
 use Rattle.row_apply.specs.KeptIn.{slots_of, owners_of, indexed_of}
 use Rattle.row_apply.specs.Soundness.{AreSoundRows, HaveOneOwner}
@@ -24,10 +25,10 @@ use Rattle.row_apply.proofs.Shapes.{has_at-is, is-has_at}
 use Rattle.row_apply.proofs.Slots.{over, find_after, to_T}
 
 -- the row found is the written one, or else the one beneath
-pub found_seen : (tables : Tables) (es : Slots) (t : TableRow) (key : Key) → AreSlots es → key ≡ row_key t.id key.values → entries.find row_cmp key.values (rows_seen tables es t) ≡ over (slot_at es key) (found_in tables key)
+pub found_seen : (tables : Tables) (es : Slots) (t : TableRow) (key : Key) → AreSlots es → key ≡ row_key t.id key.values → entries.find row_cmp key.values (rows_seen tables es t) ≡ over (slot_at es key) (row_at tables key)
 found_seen tables es t key a named =
     find_after es t.id key.values (rows_of tables t.id) a.primary a.ordered
-    ∙ (λ i. over (slot_at es (sym named i)) (found_in tables (sym named i)))
+    ∙ (λ i. over (slot_at es (sym named i)) (row_at tables (sym named i)))
 
 -- ---- the index answers right
 

@@ -6,7 +6,8 @@ use Rattle.rl_value.specs.Order.{row_cmp}
 use Rattle.std.specs.FinMap.Entries as entries
 use Rattle.redo_vec.specs.declared.table.TableRow.{TableRow}
 use Rattle.redo_spec.specs.Tables.{Rows, Tables, empty_tables}
-use Rattle.row_apply.specs.Found.{found_in, owner_of}
+use Rattle.redo_spec.specs.Work.{row_at}
+use Rattle.row_apply.specs.Found.{owner_of}
 use Rattle.row_apply.specs.Overlaid.{overlaid}
 use Rattle.row_apply.specs.Soundness.{AreSoundRows, AreSound}
 
@@ -28,7 +29,7 @@ overlaid-none [] = refl
 overlaid-none (t ∷ ts) = ap (λ us. t ∷ us) (overlaid-none ts)
 
 -- a table without rows has no row, and no owner of a unique value
-pub nothing_found : (t : TableRow) (key : Key) → found_in (empty_tables (t ∷ [])) key ≡ None
+pub nothing_found : (t : TableRow) (key : Key) → row_at (empty_tables (t ∷ [])) key ≡ None
 nothing_found t key =
     let empty : Rows = [] in
     elim (t.id == key.table) as (λ b. entries.find row_cmp key.values (cond b empty empty) ≡ None) [

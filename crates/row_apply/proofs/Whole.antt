@@ -1,15 +1,16 @@
 -- A change of one table as the change of all: what is asked of it, and what it leaves.
 use Rattle.std.proofs.Common.{◌≡◌, ℕ, List, sym, ap, subst, ◌∙◌, true, false, Some, None, Ok, Err}
 use Rattle.rl_value.specs.declared.miss.Miss.{Miss}
+use Rattle.redo_vec.specs.Forms.{is_key_columns}
 use Rattle.redo_vec.specs.declared.change.Change.{Change}
 use Rattle.redo_vec.specs.declared.table.TableRow.{TableRow}
 use Rattle.redo_spec.specs.ChangeForm.{change_fault, fault_of_table}
-use Rattle.redo_spec.specs.Dictionary.{table_of, ids_rise, has_bad_keys}
+use Rattle.redo_spec.specs.Dictionary.{table_of, primary_of, ids_rise, has_bad_keys}
 use Rattle.redo_spec.specs.Effect.{effect, effect_on}
 use Rattle.redo_spec.specs.Tables.{Tables, Table, definitions_of}
 use Rattle.row_apply.specs.declared.written.Written.{Written}
 use Rattle.row_apply.specs.Adding.{CanChange}
-use Rattle.row_apply.specs.Found.{rows_of}
+use Rattle.redo_spec.specs.Work.{rows_of}
 use Rattle.row_apply.specs.Kept.{Slots, AreSlots, ChangesOnly, rows_seen, table_seen}
 use Rattle.row_apply.specs.KeptIn.{slots_of, IsKept}
 use Rattle.row_apply.specs.Overlaid.{overlaid, rows_after, are_of}
@@ -29,14 +30,15 @@ module _ (tables : Tables) (defs : List TableRow) (t : TableRow) (c : Change) (d
   there : table_of (definitions_of tables) t.id ≡ Some t
   there = ap (table_of (definitions_of tables)) id ∙ named
 
-  pub can_change : (w : Written) → change_fault defs c ≡ None → AreSound tables → AreSound (overlaid tables (writes_of (slots_of w))) → IsKept w → has_bad_keys t ≡ false → CanChange tables w t c
-  can_change w accepted base s kept keys = record {
+  pub can_change : (w : Written) → change_fault defs c ≡ None → AreSound tables → AreSound (overlaid tables (writes_of (slots_of w))) → IsKept w → has_bad_keys t ≡ false → is_key_columns (primary_of t) ≡ true → CanChange tables w t c
+  can_change w accepted base s kept keys form = record {
     there = there;
     base_sound = base;
     sound = sound_rows tables t t.id (writes_of (slots_of w)) there s;
     kept = kept;
     accepted = ap (λ o. fault_of_table o c) found ∙ accepted;
     keys = keys;
+    form = form;
   }
 
   module _ (old new : Slots) (rising : ids_rise 0 defs ≡ true) (base : AreSound tables) (o : AreSlots old) (n : AreSlots new) (only : ChangesOnly t.id old new) where

@@ -23,7 +23,7 @@ use Rattle.row_apply.proofs.Fitting.{both, join}
 
 -- ---- the writes rise
 
-same_key : (e : Key × Option (List Value)) → e.0.index ≡ 0 → written_key (write_of e) ≡ e.0
+pub same_key : (e : Key × Option (List Value)) → e.0.index ≡ 0 → written_key (write_of e) ≡ e.0
 same_key e p = λ i. record { table = e.0.table; index = sym p i; values = e.0.values }
 
 same_keys : (es : Slots) → ArePrimary es → map written_key (writes_of es) ≡ keys_of es

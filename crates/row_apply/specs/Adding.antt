@@ -1,14 +1,15 @@
 -- What stands in the way of a row that is added: rows without the one that it comes for, and owners of its unique values.
-use Rattle.std.specs.Prelude.{◌≡◌, ℕ, List, Bool, false, ◌&&◌, ◌==◌, Option, Some, None, is_some, if◌then◌else◌}
+use Rattle.std.specs.Prelude.{◌≡◌, ℕ, List, Bool, false, ◌&&◌, ◌==◌, Option, Some, None, is_some, if◌then◌else◌, IsTrue}
 use Rattle.std.specs.FinMap.Entries as entries
 use Rattle.std.specs.Ordering.{eq_by_cmp}
 use Rattle.rl_value.specs.declared.value.Value.{Value}
 use Rattle.rl_value.specs.declared.key.Key.{Key}
 use Rattle.rl_value.specs.Order.{row_cmp}
+use Rattle.redo_vec.specs.Forms.{is_key_columns}
 use Rattle.redo_vec.specs.declared.table.TableRow.{TableRow}
 use Rattle.redo_vec.specs.declared.change.Change.{Change}
 use Rattle.redo_spec.specs.ChangeForm.{change_fault_in}
-use Rattle.redo_spec.specs.Dictionary.{table_of, has_bad_keys}
+use Rattle.redo_spec.specs.Dictionary.{table_of, primary_of, has_bad_keys}
 use Rattle.redo_spec.specs.Tables.{Rows, Table, Tables, values_at, primary_key, definitions_of}
 use Rattle.row_apply.specs.declared.written.Written.{Written}
 use Rattle.row_apply.specs.Overlaid.{write_row}
@@ -95,3 +96,4 @@ pub record CanChange (tables : Tables) (w : Written) (t : TableRow) (c : Change)
   pub kept : IsKept w
   pub accepted : change_fault_in t c ≡ None
   pub keys : has_bad_keys t ≡ false
+  pub form : IsTrue (is_key_columns (primary_of t))

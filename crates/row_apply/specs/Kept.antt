@@ -14,7 +14,7 @@ use Rattle.redo_vec.specs.declared.table.TableRow.{TableRow}
 use Rattle.redo_spec.specs.ConflictKeys.{is_null}
 use Rattle.redo_spec.specs.Dictionary.{uniques_of}
 use Rattle.redo_spec.specs.Tables.{Rows, Tables, Table, values_at}
-use Rattle.row_apply.specs.Found.{rows_of}
+use Rattle.redo_spec.specs.Work.{rows_of}
 use Rattle.row_apply.specs.Overlaid.{rows_after}
 use Rattle.row_apply.specs.Written.{writes_of}
 
@@ -107,6 +107,15 @@ Puts old new gone key row = (q : Key) → slot_at new q ≡ cond (is_eq (key_cmp
 -- what was written of other tables is as it was
 abbrev pub ChangesOnly : ℕ → Slots → Slots → Type 0
 ChangesOnly table old new = (q : Key) → (q.table == table) ≡ false → slot_at new q ≡ slot_at old q
+
+-- what was written under other keys than these is as it was
+abbrev pub SlotsOnly : List Key → Slots → Slots → Type 0
+SlotsOnly keys old new = (q : Key) → list_any (λ k. is_eq (key_cmp k q)) keys ≡ false → slot_at new q ≡ slot_at old q
+
+-- the key of the row that goes, if one does, and that of the one that comes
+abbrev pub keys_put : Option Key → Key → List Key
+keys_put None key = key ∷ []
+keys_put (Some gone) key = gone ∷ key ∷ []
 
 -- owners in other tables are as they were
 abbrev pub OwnersOnly : ℕ → Owners → Owners → Type 0

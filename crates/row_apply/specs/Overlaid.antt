@@ -1,12 +1,13 @@
 -- Written rows in place of those beneath: the tables after a list of writes, each of which puts a row in the place of the
 -- one with its primary key, or takes that one away. This project's own.
-use Rattle.std.specs.Prelude.{ℕ, List, [], ◌∷◌, Bool, map, not, ◌==◌, if◌then◌else◌, Option, Some, None, is_some}
-use Rattle.std.specs.List.{list_all}
-use Rattle.std.specs.Ordering.{eq_by_cmp}
+use Rattle.std.specs.Prelude.{◌≡◌, ℕ, List, [], ◌∷◌, Bool, false, map, not, ◌==◌, if◌then◌else◌, Option, Some, None, is_some}
+use Rattle.std.specs.List.{find, list_all, list_any}
+use Rattle.std.specs.Option.{option_map}
+use Rattle.std.specs.Ordering.{eq_by_cmp, is_eq}
 use Rattle.std.specs.FinMap.Entries as entries
 use Rattle.rl_value.specs.declared.value.Value.{Value}
 use Rattle.rl_value.specs.declared.key.Key.{Key}
-use Rattle.rl_value.specs.Order.{row_cmp, keys_rise}
+use Rattle.rl_value.specs.Order.{row_cmp, key_cmp, keys_rise}
 use Rattle.redo_vec.specs.declared.table.TableRow.{TableRow}
 use Rattle.redo_spec.specs.Dictionary.{table_of}
 use Rattle.redo_spec.specs.Tables.{Rows, Table, Tables}
@@ -41,3 +42,11 @@ writes_rise ws = keys_rise (map written_key ws)
 -- each write is of one of these tables
 abbrev pub are_of : List TableRow → List Write → Bool
 are_of tables ws = list_all (λ w. is_some (table_of tables w.table)) ws
+
+-- what was left under a row key: the row, or that it is gone; None where nothing was written
+abbrev pub written_at : List Write → Key → Option (Option (List Value))
+written_at ws q = option_map (λ w. w.row) (find (λ w. is_eq (key_cmp (written_key w) q)) ws)
+
+-- what was written under other keys than these is as it was
+abbrev pub WritesOnly : List Key → List Write → List Write → Type 0
+WritesOnly keys old new = (q : Key) → list_any (λ k. is_eq (key_cmp k q)) keys ≡ false → written_at new q ≡ written_at old q

@@ -5,20 +5,21 @@
 
 ghost use Rattle.std.specs.Prelude.{◌≡◌, ◌≢◌, ◌<◌, false, Ok, Err, None, Some, Result, OnOk, OnErr, IfOk, IsTrue, length, is_some, true};
 ghost use Rattle.redo_spec.specs.ChangeForm.{change_fault, change_fault_in, is_row_of};
+ghost use Rattle.redo_spec.specs.ConflictKeys.{conflict_keys, conflict_keys_in};
 ghost use Rattle.redo_spec.specs.Dictionary.{has_bad_keys};
 ghost use Rattle.redo_spec.specs.Effect.{effect as effect_of, effect_on, take_row, difference, logged_key, with_cells, cell_values};
 ghost use Rattle.redo_spec.specs.Tables.{definitions_of};
 ghost use Rattle.redo_vec.specs.declared.change.Op.TheVariants.{Insert, Update, Delete};
 ghost use Rattle.row_apply.specs.Adding.{CanChange};
-ghost use Rattle.row_apply.specs.Kept.{row_key, rows_seen, table_seen, ChangesOnly};
+ghost use Rattle.row_apply.specs.Kept.{row_key, rows_seen, table_seen, ChangesOnly, SlotsOnly};
 ghost use Rattle.row_apply.specs.KeptIn.{slots_of, IsKept};
-ghost use Rattle.row_apply.specs.Overlaid.{overlaid, are_of};
+ghost use Rattle.row_apply.specs.Overlaid.{overlaid, are_of, WritesOnly};
 ghost use Rattle.row_apply.specs.Outcomes.{OnMiss};
 ghost use Rattle.row_apply.specs.Soundness.{AreSound, AreSoundRows};
 
 use crate::additions::add;
 use crate::fault::EffectFault;
-use crate::new_rows::{check_logged, logged_key, row_of_cells, row_with_cells};
+use crate::new_rows::{check_logged, logged_key, primary_columns, row_of_cells, row_with_cells};
 use crate::overlay::Overlay;
 use crate::rows::Rows;
 use crate::seen::found;
@@ -40,8 +41,10 @@ fn insert<R: Rows>(
     ensures unchanged { OnErr result (slots_of over.new ≡ slots_of over.old) }
     ensures kept { IsKept over.new }
     ensures others { ChangesOnly table.now.id (slots_of over.old) (slots_of over.new) }
+    ensures only { OnOk result (SlotsOnly (conflict_keys_in table.now change.now) (slots_of over.old) (slots_of over.new)) }
     ensures sound { AreSoundRows table.now (rows_seen (R.tables base.now) (slots_of over.new) table.now) }
 {
+    // The cells rise by their columns, so those of all columns are the row in its order.
     let _cells = change.new.cells();
     let Ok(row) = row_of_cells(over.alloc, table, &change.new) else {
         return Err(EffectFault::Memory);
@@ -49,8 +52,8 @@ fn insert<R: Rows>(
     add(base, over, table, None, row)
 }
 
-// The key of the row that the change logged.
-fn key_logged(over: &Written, table: &TableRow, change: &Change) -> Result<Key, NoMemory>
+// The primary key of the row as it was logged.
+fn old_primary_key(over: &Written, table: &TableRow, change: &Change) -> Result<Key, NoMemory>
     requires keys { has_bad_keys table.now ≡ false }
     requires accepted { change_fault_in table.now change.now ≡ None }
     requires op { change.now.op ≢ Insert }
@@ -72,14 +75,16 @@ fn update<R: Rows>(
 ) -> Result<(), EffectFault>
     requires can { CanChange (R.tables base.now) over.old table.now change.now }
     requires op { change.now.op ≢ Insert }
+    requires update { change.now.op ≡ Update }
     ensures done { OnOk result (effect_on (table_seen (R.tables base.now) (slots_of over.old) table.now) Update change.now.old change.now.new ≡ Ok (table_seen (R.tables base.now) (slots_of over.new) table.now)) }
     ensures miss { OnMiss result (λ miss. effect_on (table_seen (R.tables base.now) (slots_of over.old) table.now) Update change.now.old change.now.new ≡ Err miss) }
     ensures unchanged { OnErr result (slots_of over.new ≡ slots_of over.old) }
     ensures kept { IsKept over.new }
     ensures others { ChangesOnly table.now.id (slots_of over.old) (slots_of over.new) }
+    ensures only { OnOk result (SlotsOnly (conflict_keys_in table.now change.now) (slots_of over.old) (slots_of over.new)) }
     ensures sound { AreSoundRows table.now (rows_seen (R.tables base.now) (slots_of over.new) table.now) }
 {
-    let Ok(key) = key_logged(over, table, change) else {
+    let Ok(key) = old_primary_key(over, table, change) else {
         return Err(EffectFault::Memory);
     };
     let Some(row) = found(base, over, table, &key) else {
@@ -105,9 +110,10 @@ fn delete<R: Rows>(
     ensures unchanged { OnErr result (slots_of over.new ≡ slots_of over.old) }
     ensures kept { IsKept over.new }
     ensures others { ChangesOnly table.now.id (slots_of over.old) (slots_of over.new) }
+    ensures only { OnOk result (SlotsOnly (conflict_keys_in table.now change.now) (slots_of over.old) (slots_of over.new)) }
     ensures sound { AreSoundRows table.now (rows_seen (R.tables base.now) (slots_of over.new) table.now) }
 {
-    let Ok(key) = key_logged(over, table, change) else {
+    let Ok(key) = old_primary_key(over, table, change) else {
         return Err(EffectFault::Memory);
     };
     let Some(row) = found(base, over, table, &key) else {
@@ -132,6 +138,7 @@ fn change_rows<R: Rows>(
     ensures unchanged { OnErr result (slots_of over.new ≡ slots_of over.old) }
     ensures kept { IsKept over.new }
     ensures others { ChangesOnly table.now.id (slots_of over.old) (slots_of over.new) }
+    ensures only { OnOk result (SlotsOnly (conflict_keys_in table.now change.now) (slots_of over.old) (slots_of over.new)) }
     ensures sound { AreSoundRows table.now (rows_seen (R.tables base.now) (slots_of over.new) table.now) }
 {
     match change.op {
@@ -158,9 +165,12 @@ pub fn effect<R: Rows>(
     ensures unchanged { OnErr result (over.new ≡ over.old) }
     ensures sound { AreSound (overlaid (R.tables base.now) over.new) }
     ensures of_tables { IsTrue (are_of dict.now.tables over.old) → IsTrue (are_of dict.now.tables over.new) }
+    ensures only { OnOk result (WritesOnly (conflict_keys dict.now.tables change.now) over.old over.new) }
 {
     let Some(table) = dict.def(change.table) else {
         unreachable!()
     };
+    // A primary key has a column, so a row's key is among the keys that its change touches.
+    let _primary = primary_columns(table);
     change_rows(base, &mut over.written, table, change)
 }

@@ -7,16 +7,15 @@ ghost use Rattle.redo_spec.specs.Dictionary.{table_of};
 ghost use Rattle.redo_spec.specs.Tables.{Tables, definitions_of, empty_tables, primary_key};
 ghost use Rattle.rl_value.specs.declared.value.Value.{Value};
 ghost use Rattle.row_apply.specs.declared.writes.Write.{Write};
-ghost use Rattle.row_apply.specs.Found.{found_in};
 ghost use Rattle.row_apply.specs.Overlaid.{overlaid, writes_rise, written_key};
 ghost use Rattle.row_apply.specs.Soundness.{AreSound};
 
 /// Tables without rows are sound.
 pub fn tables_without_rows_are_sound()
-    ensures { (tables : List TableRow) → AreSound (empty_tables tables) }
+    ensures sound { (tables : List TableRow) → AreSound (empty_tables tables) }
 {}
 
 /// No writes change nothing.
 pub fn no_writes_change_nothing()
-    ensures { (tables : Tables) → overlaid tables [] ≡ tables }
+    ensures same { (tables : Tables) → overlaid tables [] ≡ tables }
 {}

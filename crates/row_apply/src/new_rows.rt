@@ -54,6 +54,7 @@ pub fn row_of_cells(alloc: Global, table: &TableRow, cells: &Cells) -> Result<Ro
     requires { length cells.now ≡ length table.now.columns }
     ensures { IfOk result (λ row. row ≡ cell_values cells.now) }
 {
+    // A table has 1 to 32 columns, so a value for each is a row.
     let _columns = table.columns.items();
     let values = copied_values(alloc, cells.cells())?;
     Ok(Row::of(values))
@@ -103,6 +104,7 @@ pub fn row_with_cells(
 ) -> Result<Row, NoMemory>
     ensures { IfOk result (λ after. after ≡ with_cells table.now row.now cells.now) }
 {
+    // A table has 1 to 32 columns, so a value for each is a row.
     let _columns = table.columns.items();
     let values = values_after(alloc, table, row.values(), cells.cells())?;
     Ok(Row::of(values))
@@ -129,7 +131,8 @@ fn logged_values(
     Ok(values)
 }
 
-fn primary_columns(table: &TableRow) -> &[u8]
+/// The columns of the table's primary key.
+pub fn primary_columns(table: &TableRow) -> &[u8]
     ensures form { IsTrue (is_key_columns (primary_of table.now)) }
     ensures same { result.now ≡ primary_of table.now }
 {

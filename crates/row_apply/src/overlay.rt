@@ -35,7 +35,7 @@ impl Model for Overlay {
 impl Overlay {
     /// An overlay without a write. It takes no memory yet.
     pub fn new(alloc: Global) -> Overlay
-        ensures { result ≡ [] }
+        ensures empty { result ≡ [] }
     {
         Overlay {
             written: Written::new(alloc),
@@ -44,7 +44,7 @@ impl Overlay {
 
     /// An equal overlay, which owns memory of its own.
     pub fn snapshot(&self) -> Result<Overlay, NoMemory>
-        ensures { IfOk result (λ overlay. overlay ≡ self.now) }
+        ensures equal { IfOk result (λ overlay. overlay ≡ self.now) }
     {
         let written = self.written.copy()?;
         Ok(Overlay { written })
@@ -52,7 +52,7 @@ impl Overlay {
 
     /// The rows that were written, each as it is now.
     pub fn writes(&self) -> Result<Writes, NoMemory>
-        ensures { IfOk result (λ writes. writes ≡ self.now) }
+        ensures same { IfOk result (λ writes. writes ≡ self.now) }
     {
         let items = copied_writes(self.written.alloc, &self.written.rows)?;
         Ok(Writes::of(items))
@@ -60,7 +60,7 @@ impl Overlay {
 
     /// Gives up the rows that were written, each as it is now. Where memory wants they are lost.
     pub fn into_writes(self) -> Result<Writes, NoMemory>
-        ensures { IfOk result (λ writes. writes ≡ self) }
+        ensures same { IfOk result (λ writes. writes ≡ self) }
     {
         let items = self.written.into_items()?;
         Ok(Writes::of(items))

@@ -6,7 +6,8 @@ ghost use Rattle.std.specs.Option.{option_copied};
 ghost use Rattle.redo_spec.specs.ConflictKeys.{is_null};
 ghost use Rattle.redo_spec.specs.Dictionary.{table_of};
 ghost use Rattle.redo_spec.specs.Tables.{Tables, definitions_of};
-ghost use Rattle.row_apply.specs.Found.{found_in, owner_of};
+ghost use Rattle.redo_spec.specs.Work.{row_at};
+ghost use Rattle.row_apply.specs.Found.{owner_of};
 ghost use Rattle.row_apply.specs.Soundness.{AreSound};
 
 use rl_value::{Key, Row};
@@ -20,7 +21,7 @@ pub trait Rows {
     fn get(&self, key: &Key) -> Option<&Row>
         requires primary { key.now.index ≡ 0 }
         requires there { IsSome (table_of (definitions_of (tables self.now)) key.now.table) }
-        ensures row { option_copied result ≡ found_in (tables self.now) key.now };
+        ensures row { option_copied result ≡ row_at (tables self.now) key.now };
 
     /// The primary key of the row that has this value of a unique key; unique keys count from 1. The value has no
     /// Null, and has one owner at most.

@@ -11,6 +11,7 @@ use crate::fault::EffectFault;
 use crate::laws::{no_writes_change_nothing, tables_without_rows_are_sound};
 use crate::overlay::Overlay;
 use crate::rows::Rows;
+use crate::writes::Write;
 use redo_dict::Dict;
 use redo_vec::{Change, Column, Columns, KeyColumns, KeyLists, Kind, Line30, Op, TableRow};
 use rl_value::{Cells, Key, Miss, Row, Value, Xid};
@@ -58,16 +59,23 @@ enum Told {
     Refused,
 }
 
-fn told_of(answer: Result<(), EffectFault>) -> Told {
-    match answer {
-        Ok(()) => Told::Done,
-        Err(EffectFault::Memory) => Told::Memory,
-        Err(EffectFault::Miss(miss)) => match miss {
+fn told_by(fault: EffectFault) -> Told {
+    match fault {
+        EffectFault::Memory => Told::Memory,
+        EffectFault::Miss(miss) => match miss {
             Miss::Absent(_) => Told::Absent,
             Miss::Differs { column, .. } => Told::Differs(column),
             Miss::Exists(_) => Told::Exists,
             Miss::Taken { index, .. } => Told::Taken(index),
         },
+    }
+}
+
+// What a change came to, by a copy of its fault.
+fn told_of(answer: &Result<(), EffectFault>) -> Result<Told, Fail> {
+    match answer {
+        Ok(()) => Ok(Told::Done),
+        Err(fault) => Ok(told_by(fault.copy()?)),
     }
 }
 
@@ -98,12 +106,12 @@ impl World {
         }))
     }
 
-    fn apply(&mut self, change: &Change) -> Told {
+    fn apply(&mut self, change: &Change) -> Result<Told, Fail> {
         if self.dict.check_change(change).is_err() {
-            return Told::Refused;
+            return Ok(Told::Refused);
         }
         tables_without_rows_are_sound();
-        told_of(effect(&self.base, &self.dict, &mut self.over, change))
+        told_of(&effect(&self.base, &self.dict, &mut self.over, change))
     }
 }
 
@@ -187,7 +195,7 @@ fn change_of(alloc: Global, step: Step) -> Result<Change, Fail> {
 fn outcome(world: &mut World, alloc: Global, steps: &[Step]) -> Result<Told, Fail> {
     for step in steps {
         let change = change_of(alloc, *step)?;
-        let told = world.apply(&change);
+        let told = world.apply(&change)?;
         if told != Told::Done {
             return Ok(told);
         }
@@ -242,7 +250,22 @@ fn a_change_finds_its_rows(rt: HostRuntime) -> Result<(), Fail> {
     Ok(())
 }
 
-// How many rows these steps have written, in a copy of what they wrote; None where one was not done.
+// The writes are those of copies of the others.
+fn are_same(writes: &[Write], others: &[Write]) -> Result<bool, Fail> {
+    if writes.len() != others.len() {
+        return Ok(false);
+    }
+    for (write, other) in writes.iter().zip(others) {
+        let other = other.copy()?;
+        if write.table != other.table || write.key != other.key || write.row != other.row {
+            return Ok(false);
+        }
+    }
+    Ok(true)
+}
+
+// How many rows these steps have written. None where a step was not done, or where the writes, a copy of them and those that
+// a snapshot gives up are not the same.
 fn written(alloc: Global, steps: &[Step]) -> Result<Option<usize>, Fail> {
     let Some(mut world) = World::new(alloc)? else {
         return Ok(None);
@@ -250,8 +273,13 @@ fn written(alloc: Global, steps: &[Step]) -> Result<Option<usize>, Fail> {
     if outcome(&mut world, alloc, steps)? != Told::Done {
         return Ok(None);
     }
-    let copy = world.over.snapshot()?;
-    let writes = copy.into_writes()?;
+    let writes = world.over.writes()?;
+    let copy = writes.copy()?;
+    let moved = world.over.snapshot()?.into_writes()?;
+    let same = are_same(writes.items(), copy.items())? && are_same(writes.items(), moved.items())?;
+    if !same {
+        return Ok(None);
+    }
     Ok(Some(writes.items().len()))
 }
 

@@ -13,7 +13,7 @@ pub enum Level {
 
 /// Whether users may write a table that is maintained, or is not.
 pub fn allowed(level: Level, maintained: bool) -> bool
-    ensures { IsTrue result ↔ ((level ≡ Standby) × (maintained ≡ false)) }
+    ensures exact { IsTrue result ↔ ((level ≡ Standby) × (maintained ≡ false)) }
 {
     match level {
         Level::All => false,

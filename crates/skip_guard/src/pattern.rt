@@ -52,7 +52,7 @@ impl Pattern {
     /// Whether it matches SCHEMA.NAME as a whole: `%` is any bytes, `_` any one byte, and each other byte itself. It takes
     /// about as many steps as the product of the two lengths at most.
     pub fn matches(&self, full_name: &[u8]) -> bool
-        ensures { result ≡ names self.now full_name.now }
+        ensures exact { result ≡ names self.now full_name.now }
     {
         text_matches(self.bytes.as_slice(), full_name)
     }

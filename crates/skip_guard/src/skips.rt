@@ -38,7 +38,7 @@ impl Model for Skips {
 impl Skips {
     /// No rule. It takes no memory yet.
     pub fn new(alloc: Global) -> Skips
-        ensures { result ≡ [] }
+        ensures empty { result ≡ [] }
     {
         Skips {
             entries: Vec::new(alloc),
@@ -74,7 +74,7 @@ impl Skips {
     /// Whether the dictionary has the table and an entry that counts after `at` commits names it. A table that is there
     /// and is not skipped is maintained.
     pub fn table_skipped(&self, dict: &Dict, table: u32, at: u64) -> bool
-        ensures { result ≡ skips_table self.now at (table_of dict.now.tables table) }
+        ensures exact { result ≡ skips_table self.now at (table_of dict.now.tables table) }
     {
         match dict.def(table) {
             None => false,
@@ -85,7 +85,7 @@ impl Skips {
     /// Whether the change of the commit after the first `at` is passed over: an entry that counts there names its
     /// table or its transaction.
     pub fn skipped(&self, dict: &Dict, change: &Change, at: u64) -> bool
-        ensures { (pos : Pos) → result ≡ is_skipped self.now dict.now.tables at (pos, change.now) }
+        ensures exact { (pos : Pos) → result ≡ is_skipped self.now dict.now.tables at (pos, change.now) }
     {
         names_xid(self.entries.as_slice(), at, change.xid)
             || self.table_skipped(dict, change.table, at)

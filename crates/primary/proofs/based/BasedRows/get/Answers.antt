@@ -6,7 +6,7 @@ use Rattle.redo_vec.specs.declared.table.TableRow.{TableRow}
 use Rattle.redo_spec.specs.Dictionary.{table_of}
 use Rattle.redo_spec.specs.Tables.{rows_by}
 use Rattle.primary.specs.Beneath.{Beneath}
-use Rattle.primary.proofs.TableLaws.{definitions_assembled, found_in_assembled}
+use Rattle.primary.proofs.TableLaws.{definitions_assembled, row_at_assembled}
 use Rattle.primary.proofs.based.BasedRows.get.Goals as goal
 
 pub returns : goal.returns
@@ -17,5 +17,5 @@ returns c =
     record {
       row = c.get.ensures
           ∙ ap (λ (v : Beneath). find row_cmp key.values (rows_by v.rows key.table)) c.self.view_is
-          ∙ sym (found_in_assembled b.dictionary.tables b.rows key there);
+          ∙ sym (row_at_assembled b.dictionary.tables b.rows key there);
     }

@@ -24,7 +24,7 @@ returns-then-not-branch-clause-taken c =
     let ts = r.law.dictionary.tables in
     let ws = c.in-Ok.writes in
     let cs : c.as_slice.result.now ≡ c.args.changes = c.as_slice.ensures.value ∙ c.into_items-changes.ensures in
-    let d : c.dict.result.now ≡ r.law.dictionary = c.dict.ensures in
+    let d : c.dict.result.now ≡ r.law.dictionary = c.dict.ensures.same in
     let told : c.in_ok-put_in.field-0 ≡ not (nat_lt live_row_limit (row_count (overlaid (assembled c.dict.result.now.tables r.tables) ws))) = c.in_ok-put_in.ensures.few in
     let many : not (nat_lt live_row_limit (row_count (overlaid (assembled ts r.tables) ws))) ≡ false =
     sym (told ∙ ap (λ e. not (nat_lt live_row_limit (row_count (overlaid (assembled e.tables r.tables) ws)))) d) ∙ c.if-not-branch.true in
@@ -45,7 +45,7 @@ returns-clause-taken c =
     let ts = r.law.dictionary.tables in
     let ws = c.in-Ok.writes in
     let cs : c.as_slice.result.now ≡ c.args.changes = c.as_slice.ensures.value ∙ c.into_items-changes.ensures in
-    let d : c.dict.result.now ≡ r.law.dictionary = c.dict.ensures in
+    let d : c.dict.result.now ≡ r.law.dictionary = c.dict.ensures.same in
     let told : c.in_ok-put_in.field-0 ≡ not (nat_lt live_row_limit (row_count (overlaid (assembled c.dict.result.now.tables r.tables) ws))) = c.in_ok-put_in.ensures.few in
     let few : not (nat_lt live_row_limit (row_count (overlaid (assembled ts r.tables) ws))) ≡ true =
     sym (told ∙ ap (λ e. not (nat_lt live_row_limit (row_count (overlaid (assembled e.tables r.tables) ws)))) d) ∙ c.if-not-branch.false in

@@ -25,7 +25,7 @@ loop-vector-init c =
     let P : List Vector → Type 0 = λ vs. Steps c.args.skips.now c.args.head.now c.args.rec old now 1 vs in
     subst P (sym all)
     (steps_begin c.args.skips.now c.args.head.now c.args.rec old now c.requires.running (c.in-Ok.ensures).exact (c.in-Ok.ensures).admitted refl refl refl refl refl refl
-    (c.finished-self.ensures ∙ ap (λ d. d.finished) c.dict.ensures) refl refl c.into_items-vector-items.ensures.most)
+    (c.finished-self.ensures.value ∙ ap (λ d. d.finished) c.dict.ensures.same) refl refl c.into_items-vector-items.ensures.most)
 
 pub apply_commit-requires-clause-may : goal.apply_commit-requires-clause-may
 apply_commit-requires-clause-may c =

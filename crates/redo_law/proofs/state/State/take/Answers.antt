@@ -3,6 +3,7 @@ use Rattle.redo_vec.specs.declared.vector.Vector.{Vector}
 use Rattle.redo_spec.specs.Standing.{Standing, standing_after}
 use Rattle.redo_law.specs.declared.fault.AdmitFault.{AdmitFault}
 use Rattle.redo_law.specs.Seen.{seen}
+use Rattle.redo_law.proofs.Wanting.{never}
 use Rattle.redo_law.proofs.state.State.take.Goals as goal
 
 -- what is left of a vector is left of the one that it is
@@ -24,3 +25,12 @@ returns-in-Table-clause-done c = turned c.add_table.result (seen c.args.self.now
 pub returns-in-DictEnd-clause-done : goal.returns-in-DictEnd-clause-done
 returns-in-DictEnd-clause-done c =
     subst (λ (v : Vector). seen c.end_dictionary.new.self ≡ standing_after c.args.vec v (seen c.args.self.now)) (sym c.in-DictEnd.is) (c.end_dictionary.ensures.done c.args.vec)
+
+pub returns-in-Undo-clause-memory : goal.returns-in-Undo-clause-memory
+returns-in-Undo-clause-memory c = never _ c.undo.result c.undo.ensures.memory
+
+pub returns-in-Commit-clause-memory : goal.returns-in-Commit-clause-memory
+returns-in-Commit-clause-memory c = never _ c.commit.result c.commit.ensures.memory
+
+pub returns-in-Rollback-clause-memory : goal.returns-in-Rollback-clause-memory
+returns-in-Rollback-clause-memory c = never _ c.rollback.result c.rollback.ensures.memory
