@@ -136,7 +136,7 @@ fn all_kinds() -> Vec<u8> {
     log.finish()
 }
 
-/// T.A again: a transaction inserts 1,000 rows, whose lines are of about 20 KB.
+/// T.A again: a transaction inserts 1,000 rows, whose lines are of about 15 KB.
 fn many_rows() -> Vec<u8> {
     let mut log = Log::new();
     log.record(&[vec![8, 0, 0, 0, 1, 1, b'T', 1, b'A', 1, 2, b'I', b'D', 1, 0, 0, 0, 1, 0, 0], vec![9]]);
@@ -283,7 +283,7 @@ fn words_by_chance(program: &Path, folder: &Path, count: usize) -> Result<usize,
     Ok(count)
 }
 
-/// Things in a log's place that are none, and outputs that take nothing.
+/// Things in a log's place that are none.
 fn devices(program: &Path, folder: &Path) -> Result<usize, String> {
     let room = room(folder, 0);
     let path = room.join("redo/log_1.srl");
@@ -316,6 +316,22 @@ fn devices(program: &Path, folder: &Path) -> Result<usize, String> {
         expect("a log that may not be read", &output, 3)?;
     }
     fs::set_permissions(&path, fs::Permissions::from_mode(0o644)).expect("permissions");
+    fs::remove_file(&path).expect("a log");
+    fs::remove_dir(room.join("redo")).expect("a folder");
+    expect("no folder", &run(program, &room, &["fold", "1"]), 8)?;
+    File::create(room.join("redo")).expect("a file");
+    let output = run(program, &room, &["fold", "1"]);
+    match fault_of(&output) {
+        None => Ok(10),
+        Some(fault) => Err(format!("a file in the folder's place: {fault}")),
+    }
+}
+
+/// Outputs that take nothing, or not all.
+fn outputs(program: &Path, folder: &Path) -> Result<usize, String> {
+    let room = room(folder, 0);
+    let path = room.join("redo/log_1.srl");
+    fs::write(&path, first()).expect("a log");
     let out = File::options().write(true).open("/dev/full").expect("a full device");
     let status = Command::new(program).args(["fold", "1"]).current_dir(&room).stdin(Stdio::null()).stdout(out).status().expect("the program runs");
     if status.code() != Some(5) {
@@ -340,15 +356,7 @@ fn devices(program: &Path, folder: &Path) -> Result<usize, String> {
     if !gone.success() {
         return Err(format!("an output that nobody reads: {gone:?}"));
     }
-    fs::remove_file(&path).expect("a log");
-    fs::remove_dir(room.join("redo")).expect("a folder");
-    expect("no folder", &run(program, &room, &["fold", "1"]), 8)?;
-    File::create(room.join("redo")).expect("a file");
-    let output = run(program, &room, &["fold", "1"]);
-    match fault_of(&output) {
-        None => Ok(15),
-        Some(fault) => Err(format!("a file in the folder's place: {fault}")),
-    }
+    Ok(5)
 }
 
 fn main() {
@@ -370,6 +378,7 @@ fn main() {
         }
         tell(format!("words: {} runs", words(program, folder)?))?;
         tell(format!("words by chance: {} runs", words_by_chance(program, folder, 3000)?))?;
+        tell(format!("outputs: {} runs", outputs(program, folder)?))?;
         tell(format!("devices: {} runs", devices(program, folder)?))
     };
     if let Err(fault) = all() {

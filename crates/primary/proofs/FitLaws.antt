@@ -150,12 +150,12 @@ accepted_front tables (suc n) [] all = tt
 accepted_front tables (suc n) (p ∷ ps) all = (all.0, accepted_front tables n ps all.1)
 
 -- of a fact for each transaction, after the map has changed at one
-changed_at : (P : List Placed → Type 0) (b : Bool) (new old : Option (List Placed)) (ps : List Placed) → cond b new old ≡ Some ps →
+pub changed_at : (P : List Placed → Type 0) (b : Bool) (new old : Option (List Placed)) (ps : List Placed) → cond b new old ≡ Some ps →
     ((qs : List Placed) → new ≡ Some qs → P qs) → ((qs : List Placed) → old ≡ Some qs → P qs) → P ps
 changed_at P true new old ps e here there = here ps e
 changed_at P false new old ps e here there = there ps e
 
-mapped_is : (P : List Placed → Type 0) (f : List Placed → List Placed) (o : Option (List Placed)) (qs : List Placed) → option_map f o ≡ Some qs →
+pub mapped_is : (P : List Placed → Type 0) (f : List Placed → List Placed) (o : Option (List Placed)) (qs : List Placed) → option_map f o ≡ Some qs →
     ((ps : List Placed) → o ≡ Some ps → P (f ps)) → P qs
 mapped_is P f None qs e keeps = absurd (cc)
 mapped_is P f (Some ps) qs e keeps = let is : f ps ≡ qs = cc in subst P is (keeps ps refl)

@@ -11,24 +11,26 @@ use Rattle.rl_value.specs.declared.verdict.Stop.{Stop}
 use Rattle.rl_value.specs.declared.verdict.Stop.TheVariants.{Malformed}
 use Rattle.rl_value.specs.declared.verdict.Verdict.{Verdict}
 use Rattle.rl_value.specs.declared.verdict.Verdict.TheVariants.{Stopped}
+use Rattle.redo_vec.specs.declared.table.TableRow.{TableRow}
 use Rattle.redo_vec.specs.declared.vector.Vector.{Vector}
 use Rattle.redo_vec.specs.declared.vector.Vector.TheVariants.{Start, Change as OfChange, Undo, Commit, Rollback, Table, DictEnd}
 use Rattle.redo_spec.specs.declared.header.Header.{Header}
 use Rattle.redo_spec.specs.Tables.{Tables, definitions_of}
 use Rattle.redo_spec.specs.History.{Entry, Placed, Txn, Committed, Commits, History, commits_after, commit_count, no_history, committed_at, after_vector as history_vector, after_vectors as history_vectors, history_after}
+use Rattle.redo_spec.specs.Dictionary.{Dictionary}
 use Rattle.redo_spec.specs.Standing.{Standing, standing_after, standing_after_all, entered as entered_standing, record_after}
-use Rattle.redo_spec.specs.Law.{dictionary_fault, vector_fault, vectors_fault, whole_fault, record_fault, admitted_or, admission}
+use Rattle.redo_spec.specs.Law.{dictionary_fault, vector_fault, vectors_fault, whole_fault, record_fault, dictionary_left, admitted_or, admission}
 use Rattle.redo_spec.specs.Skips.{Skip}
-use Rattle.redo_spec.specs.Fold.{Folded, effects, commit_effect, commit_effects, known_tables, folded}
+use Rattle.redo_spec.specs.Fold.{Folded, effects, commit_effect, commit_effects, known_tables, folded, named_by}
 use Rattle.primary.specs.declared.plain.Plain.{Plain}
-use Rattle.primary.specs.Progress.{OpenChanges, changes_of, Ahead, Progress, Going, Ended, kept_of, tables_or, ended_or, applied, committed, live_after, after_vector, after_vectors, tables_then, entered, judged, after_record, after_records, held_at, end_of}
+use Rattle.primary.specs.Progress.{OpenChanges, changes_of, Ahead, Progress, Going, Ended, kept_of, tables_or, ended_or, applied, committed, live_after, commit_of, with_commit, after_vector, after_vectors, tables_then, entered, judged, after_record, after_records, held_at, end_of}
 use Rattle.primary.specs.Starts.{tables_shown, base_of, fold_admitted, fold_from, IsStart, begun, after}
 use Rattle.primary.proofs.WalkLaws.{Walked, came, halted, walk, walk_from, walk-snoc, walk_stays, walked_or, seen, walk_is_fold}
 use Rattle.primary.proofs.FitLaws.{none_first, none_second, no_fault, is_whole, both, opens_after}
 use Rattle.primary.specs.Running.{Opens}
 use Rattle.primary.proofs.LiveLaws.{nothing_rises}
 use Rattle.primary.proofs.HistoryFit.{Lives, lives_after, commit_ends}
-use Rattle.primary.proofs.DictionaryLaws.{record_keeps}
+use Rattle.primary.proofs.DictionaryLaws.{record_keeps, left_same}
 
 -- ---- lists
 
@@ -242,6 +244,39 @@ vectors_hold start skips base last h vec (v ∷ vs) s hist p first fits w =
     vectors_hold start skips base last h (vec + 1) vs (standing_after vec v s) (history_vector s.scn at v hist) (after_vector skips s.scn at v p) first (none_second (vector_fault h s v) _ fits)
     (vector_holds start skips base last h vec v s hist p first (none_first (vector_fault h s v) _ fits) w)
 
+-- ---- names
+
+-- the definitions that name tables where it ends here
+abbrev pub names_of : Progress → List TableRow
+names_of (Going a) = a.standing.dictionary.tables
+names_of (Ended f) = f.names
+
+names_committed : (skips : List Skip) (scn : ℕ) (ps : List Placed) (a : Ahead) → names_of (committed skips scn ps a) ≡ a.standing.dictionary.tables
+names_committed skips scn ps a =
+    elim (nat_lt a.made a.n) as (λ b. names_of (cond b (Going (record a { made = a.made + 1 })) (applied scn (effects a.tables (kept_of skips (definitions_of a.tables) a.n ps)) a)) ≡ a.standing.dictionary.tables) [
+      | true ↦ refl
+      | false ↦ by (halted scn (effects a.tables (kept_of skips (definitions_of a.tables) a.n ps)))
+    ]
+  where
+    by : (o : Option Verdict) → names_of (ended_or o scn (tables_or a.tables (effects a.tables (kept_of skips (definitions_of a.tables) a.n ps))) a) ≡ a.standing.dictionary.tables
+    by None = refl
+    by (Some v) = refl
+
+names_vector : (skips : List Skip) (scn : ℕ) (at : Pos) (v : Vector) (p : Progress) → names_of (after_vector skips scn at v p) ≡ names_of p
+names_vector skips scn at v (Ended f) = refl
+names_vector skips scn at v (Going a) = by (commit_of v a.live)
+  where
+    by : (o : Option (List Placed)) → names_of (with_commit skips scn o (record a { live = live_after at v a.live })) ≡ a.standing.dictionary.tables
+    by None = refl
+    by (Some ps) = names_committed skips scn ps (record a { live = live_after at v a.live })
+
+-- within a record nothing changes them
+names_vectors : (skips : List Skip) (scn rec vec : ℕ) (vs : List Vector) (p : Progress) → names_of (after_vectors skips scn rec vec vs p) ≡ names_of p
+names_vectors skips scn rec vec [] p = refl
+names_vectors skips scn rec vec (v ∷ vs) p =
+    let at : Pos = record { rec = rec; vec = vec } in
+    names_vectors skips scn rec (vec + 1) vs (after_vector skips scn at v p) ∙ names_vector skips scn at v p
+
 -- ---- records
 
 -- the tables of the start, by this dictionary
@@ -275,6 +310,7 @@ early_vectors start h vec (v ∷ vs) s hist fits e =
 pub record Between (start : Plain) (skips : List Skip) (s : Standing) (hist : History) (p : Progress) : Type 0 where
   pub within : Within start skips (base_at start s) s s hist p
   pub early : Early start s hist
+  pub named : names_of p ≡ s.dictionary.tables
 
 -- a walk over no commits stands where it began
 stands : (start : Plain) (skips : List Skip) (base : Tables) (cs : Commits) → cs.made ≡ [] → goes start skips base cs ≡ came start.n start.scn base None
@@ -282,6 +318,14 @@ stands start skips base cs none = ap (λ ds. walk skips start.n start.scn base (
 
 no_end : (start : Plain) (skips : List Skip) (base : Tables) (cs : Commits) (v : Verdict) → cs.made ≡ [] → (goes start skips base cs).stop ≡ Some v → (P : Type 0) → P
 no_end start skips base cs v none ends P = let gone : None ≡ Some v = sym (ap (λ w. w.stop) (stands start skips base cs none)) ∙ ends in absurd (cc)
+
+-- the dictionary of a fold that has ended with a commit is whole
+ended_whole : (start : Plain) (skips : List Skip) (s : Standing) (hist : History) (f : Folded) → Early start s hist → Halts start skips (base_at start s) hist.commits f → s.dictionary.finished ≡ true
+ended_whole start skips s hist f early h =
+    elim s.dictionary.finished as (λ b. s.dictionary.finished ≡ b → b ≡ true) [
+      | true ↦ λ whole. refl
+      | false ↦ λ part. no_end start skips (base_at start s) hist.commits f.verdict (early.made part) (ap (λ w. w.stop) h.walked) _
+    ] refl
 
 -- as an admitted record begins, its dictionary is the one by which the base has its tables
 rebased : (start : Plain) (skips : List Skip) (e : Entry) (a : Ahead) (hist : History) → record_fault a.standing e ≡ None → Early start a.standing hist →
@@ -317,12 +361,8 @@ rebased start skips e a hist fits early k =
 base_stays : (start : Plain) (skips : List Skip) (e : Entry) (s : Standing) (hist : History) (f : Folded) → record_fault s e ≡ None → Early start s hist →
     Halts start skips (base_at start s) hist.commits f → Halts start skips (base_at start (record_after e s)) hist.commits f
 base_stays start skips e s hist f fits early h =
-    elim s.dictionary.finished as (λ b. s.dictionary.finished ≡ b → Halts start skips (base_at start (record_after e s)) hist.commits f) [
-      | true ↦ λ whole.
-          let same = record_keeps e s fits whole in
-          record { before = h.before; past = h.past; walked = ap (λ d. goes start skips (tables_shown d.finished d.tables start.tables) hist.commits) same ∙ h.walked }
-      | false ↦ λ part. no_end start skips (base_at start s) hist.commits f.verdict (early.made part) (ap (λ w. w.stop) h.walked) _
-    ] refl
+    let same = record_keeps e s fits (ended_whole start skips s hist f early h) in
+    record { before = h.before; past = h.past; walked = ap (λ d. goes start skips (tables_shown d.finished d.tables start.tables) hist.commits) same ∙ h.walked }
 
 record_holds : (start : Plain) (skips : List Skip) (e : Entry) (s : Standing) (hist : History) (p : Progress) → start.before ≤ start.n → record_fault s e ≡ None → Between start skips s hist p →
     Between start skips (record_after e s) (history_after (s.rec + 1) e hist) (after_record skips e p)
@@ -335,6 +375,7 @@ record_holds start skips (h, r) s hist (Ended f) first fits b =
           (ended_vectors skips r.scn (s.rec + 1) 1 r.vectors f)
           (vectors_hold start skips (base_at start (record_after (h, r) s)) (record_after (h, r) s) h 1 r.vectors (entered_standing (h, r) s) hist (Ended f) first of_vectors begins);
       early = early_vectors start h 1 r.vectors (entered_standing (h, r) s) hist of_vectors (record { made = b.early.made; none = b.early.none });
+      named = b.named ∙ ap (λ (d : Dictionary). d.tables) (sym (record_keeps (h, r) s fits (ended_whole start skips s hist f b.early b.within.holds)));
     }
 record_holds start skips (h, r) s hist (Going a) first fits b =
     let P : Standing → Type 0 = λ t. record_fault t (h, r) ≡ None → Within start skips (base_at start t) a.standing t hist (Going a) → Early start t hist →
@@ -350,6 +391,7 @@ record_holds start skips (h, r) s hist (Going a) first fits b =
     record {
       within = subst (λ (o : Option LawFault). Within start skips (base_at start last) last last (history_after (a.standing.rec + 1) (h, r) hist) (judged o skips (h, r) a)) (sym own) ends;
       early = early_vectors start h 1 r.vectors (entered_standing (h, r) a.standing) hist of_vectors (record { made = early.made; none = early.none });
+      named = ap (λ o. names_of (judged o skips (h, r) a)) own ∙ names_vectors skips r.scn (a.standing.rec + 1) 1 r.vectors (Going (entered (h, r) a));
     } in
     let tied = b.within.tied in
     subst P tied.judged at_own fits
@@ -357,23 +399,25 @@ record_holds start skips (h, r) s hist (Going a) first fits b =
 
 -- ---- the end
 
-folds_end : (start : Plain) (skips : List Skip) (base : Tables) (cs : Commits) (stop : Stop) (p : Progress) → Holds start skips base cs p → end_of stop p ≡ seen stop (goes start skips base cs)
-folds_end start skips base cs stop (Going a) h = ap (seen stop) (sym h.walked)
-folds_end start skips base cs stop (Ended f) h = ap (seen stop) (sym h.walked)
+folds_end : (start : Plain) (skips : List Skip) (base : Tables) (cs : Commits) (stop : Stop) (names : List TableRow) (p : Progress) → names_of p ≡ names → Holds start skips base cs p →
+    end_of stop p ≡ seen names stop (goes start skips base cs)
+folds_end start skips base cs stop names (Going a) named h = λ i. seen (named i) stop (sym h.walked i)
+folds_end start skips base cs stop names (Ended f) named h = λ i. seen (named i) stop (sym h.walked i)
 
 first_before : (start : Plain) (skips : List Skip) (base : Tables) (cs : Commits) (p : Progress) → start.before ≤ start.n → Holds start skips base cs p → cs.before ≤ start.n
 first_before start skips base cs (Going a) first h = let before = h.before in omega (arith, before, first)
 first_before start skips base cs (Ended f) first h = let before = h.before in omega (arith, before, first)
 
 -- the fold of these commits is the walk over them
-fold_goes : (start : Plain) (skips : List Skip) (s : Standing) (cs : Commits) (stop : Stop) → cs.before ≤ start.n → folded (base_of start s) skips cs stop ≡ seen stop (goes start skips (base_at start s) cs)
-fold_goes start skips s cs stop first =
+fold_goes : (start : Plain) (skips : List Skip) (s : Standing) (cs : Commits) (stop : Stop) (names : List TableRow) → cs.before ≤ start.n →
+    named_by names (folded (base_of start s) skips cs stop) ≡ seen names stop (goes start skips (base_at start s) cs)
+fold_goes start skips s cs stop names first =
     let b = base_of start s in
     let here : start.n - start.n ≡ 0 = omega arith in
     let level : (start.n == start.n) ≡ true = grind (arith, nat_tests) in
-    walk_is_fold b skips cs stop refl first (commits_after cs start.n) start.n start.scn (base_at start s) (omega arith) refl
+    ap (named_by names) (walk_is_fold b skips cs stop refl first (commits_after cs start.n) start.n start.scn (base_at start s) (omega arith) refl
     (ap (λ (m : ℕ). commit_effects skips start.n (base_at start s) (take m (commits_after cs start.n))) here)
-    (ap (λ e. cond e start.scn (option_map_or (λ d. d.scn) (slice_get cs.made (start.n - (cs.before + 1))) start.scn)) level)
+    (ap (λ e. cond e start.scn (option_map_or (λ d. d.scn) (slice_get cs.made (start.n - (cs.before + 1))) start.scn)) level))
 
 ended_stays : (skips : List Skip) (es : List Entry) (f : Folded) → after_records skips es (Ended f) ≡ Ended f
 ended_stays skips [] f = refl
@@ -382,27 +426,34 @@ ended_stays skips (e ∷ es) f = ended_stays skips es f
 folds : (start : Plain) (skips : List Skip) (stop : Stop) (es : List Entry) (s : Standing) (hist : History) (p : Progress) → start.before ≤ start.n → Between start skips s hist p →
     end_of stop (after_records skips es p) ≡ fold_admitted start skips stop (admission s hist es)
 folds start skips stop [] s hist p first b =
-    folds_end start skips (base_at start s) hist.commits stop p b.within.holds
-    ∙ sym (fold_goes start skips s hist.commits stop (first_before start skips (base_at start s) hist.commits p first b.within.holds))
+    folds_end start skips (base_at start s) hist.commits stop s.dictionary.tables p b.named b.within.holds
+    ∙ sym (fold_goes start skips s hist.commits stop s.dictionary.tables (first_before start skips (base_at start s) hist.commits p first b.within.holds))
 folds start skips stop (e ∷ es) s hist p first b =
     elim (record_fault s e) as (λ o. record_fault s e ≡ o → end_of stop (after_records skips es (after_record skips e p))
-    ≡ fold_admitted start skips stop (admitted_or o s hist (admission (record_after e s) (history_after (s.rec + 1) e hist) es))) [
+    ≡ fold_admitted start skips stop (admitted_or o (dictionary_left s e) s hist (admission (record_after e s) (history_after (s.rec + 1) e hist) es))) [
       | None ↦ λ fits. folds start skips stop es (record_after e s) (history_after (s.rec + 1) e hist) (after_record skips e p) first (record_holds start skips e s hist p first fits b)
       | Some fault ↦ λ is.
           let bad : Stop = Malformed (s.rec + 1) (causes.Law fault) in
           ends_bad start skips stop e es s hist fault p b is
-          ∙ sym (fold_goes start skips s hist.commits bad (first_before start skips (base_at start s) hist.commits p first b.within.holds))
+          ∙ sym (fold_goes start skips s hist.commits bad (dictionary_left s e).tables (first_before start skips (base_at start s) hist.commits p first b.within.holds))
     ] refl
   where
     ends_bad : (start : Plain) (skips : List Skip) (stop : Stop) (e : Entry) (es : List Entry) (s : Standing) (hist : History) (fault : LawFault) (p : Progress) → Between start skips s hist p → record_fault s e ≡ Some fault →
-        end_of stop (after_records skips es (after_record skips e p)) ≡ seen (Malformed (s.rec + 1) (causes.Law fault)) (goes start skips (base_at start s) hist.commits)
-    ends_bad start skips stop e es s hist fault (Ended f) b is = ap (end_of stop) (ended_stays skips es f) ∙ ap (seen (Malformed (s.rec + 1) (causes.Law fault))) (sym b.within.holds.walked)
+        end_of stop (after_records skips es (after_record skips e p)) ≡ seen (dictionary_left s e).tables (Malformed (s.rec + 1) (causes.Law fault)) (goes start skips (base_at start s) hist.commits)
+    ends_bad start skips stop e es s hist fault (Ended f) b is =
+        let bad : Stop = Malformed (s.rec + 1) (causes.Law fault) in
+        let same = left_same e s (ended_whole start skips s hist f b.early b.within.holds) in
+        ap (end_of stop) (ended_stays skips es f)
+        ∙ folds_end start skips (base_at start s) hist.commits bad (dictionary_left s e).tables (Ended f) (b.named ∙ ap (λ (d : Dictionary). d.tables) (sym same)) b.within.holds
     ends_bad start skips stop e es s hist fault (Going a) b is =
         let same = b.within.tied.judged in
         ap (λ o. end_of stop (after_records skips es (judged o skips e a))) (ap (λ t. record_fault t e) same ∙ is)
-        ∙ ap (end_of stop) (ended_stays skips es (held_at a (Stopped (Malformed (a.standing.rec + 1) (causes.Law fault)))))
-        ∙ ap (λ (t : Standing). held_at a (Stopped (Malformed (t.rec + 1) (causes.Law fault)))) same
-        ∙ ap (seen (Malformed (s.rec + 1) (causes.Law fault))) (sym b.within.holds.walked)
+        ∙ ap (end_of stop) (ended_stays skips es (ends_at a.standing))
+        ∙ ap ends_at same
+        ∙ ap (seen (dictionary_left s e).tables (Malformed (s.rec + 1) (causes.Law fault))) (sym b.within.holds.walked)
+      where
+        ends_at : Standing → Folded
+        ends_at t = named_by (dictionary_left t e).tables (held_at a (Stopped (Malformed (t.rec + 1) (causes.Law fault))))
 
 -- The progress of a fold after any records is the fold of them.
 pub progress_folds : (start : Plain) (skips : List Skip) (entries : List Entry) (stop : Stop) → IsStart start → end_of stop (after start skips entries) ≡ fold_from start skips entries stop
@@ -420,4 +471,5 @@ progress_folds start skips entries stop is =
         tied = record { judged = refl; opens = record { rising = nothing_rises; alike = λ y. refl }; lives = record { of = λ y. refl } };
       };
       early = record { made = λ part. refl; none = is.none };
+      named = refl;
     })

@@ -10,3 +10,4 @@ pub mod ApplyLaws
 pub mod StepLaws
 pub mod UniqueLaws
 pub mod WriteLaws
+pub mod SoundLaws

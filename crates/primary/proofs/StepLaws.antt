@@ -86,7 +86,7 @@ retabled false s h r old now is run fits law tables whole =
     let none : now.tables ≡ [] = tables ∙ run.none is in
     (λ i. tables_shown (whole i) now.law.dictionary.tables (none i)) ∙ ap known_tables law
 
-sound_then : (b : Bool) (tables : Tables) (s : Standing) → AreSound tables → AreSound (tables_then b tables s)
+pub sound_then : (b : Bool) (tables : Tables) (s : Standing) → AreSound tables → AreSound (tables_then b tables s)
 sound_then true tables s sound = sound
 sound_then false tables s sound = sound_known s
 
@@ -161,7 +161,7 @@ steps_begin skips h r old now run fits law tables live made n scn rec whole inde
             let whole_still : now.whole ≡ true = whole ∙ ap (λ s. s.dictionary.finished) law ∙ ap (λ d. d.finished) same ∙ sym run.whole ∙ is in
             sym whole_still ∙ part
 
-commit_is : (h : Header) (s : Standing) (v : Vector) (live : OpenChanges) (ps : List Placed) → Fits s live → vector_fault h s v ≡ None → commit_of v live ≡ Some ps → (s.dictionary.finished ≡ true) × AreAccepted s.dictionary.tables ps
+pub commit_is : (h : Header) (s : Standing) (v : Vector) (live : OpenChanges) (ps : List Placed) → Fits s live → vector_fault h s v ≡ None → commit_of v live ≡ Some ps → (s.dictionary.finished ≡ true) × AreAccepted s.dictionary.tables ps
 commit_is h s (Start x) live ps f fits is = absurd (cc)
 commit_is h s (OfChange c) live ps f fits is = absurd (cc)
 commit_is h s (Undo x) live ps f fits is = absurd (cc)
@@ -219,20 +219,32 @@ steps_done skips h r old now vec s =
     let P : Standing → Type 0 = λ t. Fits t now.live in
     record { fits = subst P s.last s.fits; whole = s.whole; rec = s.rec; sound = s.sound; kept = s.kept; none = s.none }
 
--- a bad record ends the fold, and leaves the tables as they are
-pub bad_ends : (skips : List Skip) (h : Header) (r : RedoRec) (old after : Running) (fault : LawFault) → IsRunning old → record_fault old.law (h, r) ≡ Some fault → after.law.dictionary ≡ dictionary_left old.law (h, r) →
-    after.n ≡ old.n → after.scn ≡ old.scn → after.tables ≡ old.tables → after.whole ≡ old.whole →
-    progress_of (Some (Stopped (Malformed (old.rec + 1) (causes.Law fault)))) after ≡ after_record skips (h, r) (Going (ahead_of old))
-bad_ends skips h r old after fault run is left n scn tables whole =
-    (λ i. Ended (record { n = n i; scn = scn i; tables = shown i; verdict = Stopped (Malformed (run.rec i + 1) (causes.Law fault)) }))
-    ∙ ap (λ o. judged o skips (h, r) (ahead_of old)) (sym is)
+-- a bad record leaves the tables as they are
+bad_leaves : (h : Header) (r : RedoRec) (old after : Running) → IsRunning old → after.law.dictionary ≡ dictionary_left old.law (h, r) → after.tables ≡ old.tables → after.whole ≡ old.whole → tables_of after ≡ tables_of old
+bad_leaves h r old after run left tables whole = (λ i. tables_shown (whole i) after.law.dictionary.tables (tables i)) ∙ by old.whole refl
   where
     by : (b : Bool) → old.whole ≡ b → tables_shown b after.law.dictionary.tables old.tables ≡ tables_shown b old.law.dictionary.tables old.tables
     by true w = ap (λ d. tables_shown true d.tables old.tables) (left ∙ left_same (h, r) old.law (sym run.whole ∙ w))
     by false w = refl
 
-    shown : tables_of after ≡ tables_of old
-    shown = (λ i. tables_shown (whole i) after.law.dictionary.tables (tables i)) ∙ by old.whole refl
+-- and ends the fold
+pub bad_ends : (skips : List Skip) (h : Header) (r : RedoRec) (old after : Running) (fault : LawFault) → IsRunning old → record_fault old.law (h, r) ≡ Some fault → after.law.dictionary ≡ dictionary_left old.law (h, r) →
+    after.n ≡ old.n → after.scn ≡ old.scn → after.tables ≡ old.tables → after.whole ≡ old.whole →
+    progress_of (Some (Stopped (Malformed (old.rec + 1) (causes.Law fault)))) after ≡ after_record skips (h, r) (Going (ahead_of old))
+bad_ends skips h r old after fault run is left n scn tables whole =
+    let shown = bad_leaves h r old after run left tables whole in
+    (λ i. Ended (record { n = n i; scn = scn i; tables = shown i; names = (left i).tables; verdict = Stopped (Malformed (run.rec i + 1) (causes.Law fault)) }))
+    ∙ ap (λ o. judged o skips (h, r) (ahead_of old)) (sym is)
+
+pub bad_sound : (h : Header) (r : RedoRec) (old after : Running) → IsRunning old → after.law.dictionary ≡ dictionary_left old.law (h, r) → after.tables ≡ old.tables → after.whole ≡ old.whole → AreSound (tables_of after)
+bad_sound h r old after run left tables whole =
+    let P : Tables → Type 0 = λ ts. AreSound ts in
+    subst P (sym (bad_leaves h r old after run left tables whole)) run.sound
+
+-- no rows are sound tables
+pub sound_without : (whole : Bool) (ts : List TableRow) → AreSound (tables_shown whole ts [])
+sound_without true ts = sound_empty ts
+sound_without false ts = tt
 
 -- ---- the answers of admission
 

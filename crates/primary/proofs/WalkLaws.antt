@@ -7,7 +7,8 @@ use Rattle.rl_value.specs.declared.verdict.Stop.{Stop}
 use Rattle.rl_value.specs.declared.verdict.Verdict.{Verdict}
 use Rattle.rl_value.specs.declared.verdict.Verdict.TheVariants.{Stopped}
 use Rattle.rl_value.specs.Outcome.{◌>>=◌, map_ok}
-use Rattle.redo_spec.specs.Tables.{Tables, row_count}
+use Rattle.redo_vec.specs.declared.table.TableRow.{TableRow}
+use Rattle.redo_spec.specs.Tables.{Tables, row_count, definitions_of}
 use Rattle.redo_spec.specs.History.{Committed, Commits, commit_count}
 use Rattle.redo_spec.specs.Skips.{Skip, is_maintained}
 use Rattle.redo_spec.specs.Fold.{Base, Folded, Missed, Reached, commit_effect, tables_at, scn_at, stop_of, stop_at, visible_tables, reached, reached_or, verdict_of, tables_or_base, folded_to}
@@ -104,20 +105,21 @@ at_drop (suc k) (y ∷ ys) x more e =
     let up : suc k + 1 ≡ suc (k + 1) = omega arith in
     record { inside = omega (arith, later.inside); item = later.item; got = later.got; rest = ap (λ (m : ℕ). drop m (y ∷ ys)) up ∙ later.rest }
 
-abbrev pub seen : Stop → Walked → Folded
-seen stop w = record { n = w.n; scn = w.scn; tables = w.tables; verdict = verdict_of w.stop stop }
+-- the fold that a walk comes to, where these definitions name its tables
+abbrev pub seen : List TableRow → Stop → Walked → Folded
+seen names stop w = record { n = w.n; scn = w.scn; tables = w.tables; names = names; verdict = verdict_of w.stop stop }
 
 folded_by : (b : Base) (skips : List Skip) (cs : Commits) (stop : Stop) (n scn : ℕ) (tables : Tables) → tables_at b skips cs n ≡ Ok tables → scn_at b cs n ≡ scn →
-    (later : Reached) (walked : Walked) (o : Option Verdict) → (o ≡ None → folded_to b skips cs stop later ≡ seen stop walked) →
-    folded_to b skips cs stop (reached_or o n later) ≡ seen stop (walked_or o n scn tables walked)
+    (later : Reached) (walked : Walked) (o : Option Verdict) → (o ≡ None → folded_to b skips cs stop later ≡ seen (definitions_of b.tables) stop walked) →
+    folded_to b skips cs stop (reached_or o n later) ≡ seen (definitions_of b.tables) stop (walked_or o n scn tables walked)
 folded_by b skips cs stop n scn tables t s later walked None more = more refl
-folded_by b skips cs stop n scn tables t s later walked (Some v) more = λ i. record { n = n; scn = s i; tables = tables_or_base b (t i); verdict = v }
+folded_by b skips cs stop n scn tables t s later walked (Some v) more = λ i. record { n = n; scn = s i; tables = tables_or_base b (t i); names = definitions_of b.tables; verdict = v }
 
 -- the fold from a count on, where these commits follow, is the walk over them
 pub walk_is_fold : (b : Base) (skips : List Skip) (cs : Commits) (stop : Stop) → b.local ≡ [] → cs.before ≤ b.n →
     (more : List Committed) (n scn : ℕ) (tables : Tables) → b.n ≤ n → drop (n - cs.before) cs.made ≡ more → tables_at b skips cs n ≡ Ok tables → scn_at b cs n ≡ scn →
-    folded_to b skips cs stop (reached b skips cs n more) ≡ seen stop (walk skips n scn tables more)
-walk_is_fold b skips cs stop none first [] n scn tables from are t s = λ i. record { n = n; scn = s i; tables = tables_or_base b (t i); verdict = Stopped stop }
+    folded_to b skips cs stop (reached b skips cs n more) ≡ seen (definitions_of b.tables) stop (walk skips n scn tables more)
+walk_is_fold b skips cs stop none first [] n scn tables from are t s = λ i. record { n = n; scn = s i; tables = tables_or_base b (t i); names = definitions_of b.tables; verdict = Stopped stop }
 walk_is_fold b skips cs stop none first (c ∷ more) n scn tables from are t s =
     let k = n - cs.before in
     let at = at_drop k cs.made c more are in

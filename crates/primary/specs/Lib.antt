@@ -1,6 +1,7 @@
 pub mod ById
 pub mod Progress
 pub mod Starts
+pub mod Cells
 pub mod Beneath
 pub mod Unique
 pub mod Running

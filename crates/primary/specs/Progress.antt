@@ -24,9 +24,9 @@ use Rattle.redo_spec.specs.Tables.{Tables, row_count, definitions_of}
 use Rattle.redo_spec.specs.History.{Entry, Placed}
 use Rattle.redo_spec.specs.Standing.{Standing, record_after}
 use Rattle.redo_spec.specs.Survivors.{after_change, after_undo}
-use Rattle.redo_spec.specs.Law.{record_fault}
+use Rattle.redo_spec.specs.Law.{record_fault, dictionary_left}
 use Rattle.redo_spec.specs.Skips.{Skip, is_skipped}
-use Rattle.redo_spec.specs.Fold.{Folded, Missed, effects, stop_of, known_tables}
+use Rattle.redo_spec.specs.Fold.{Folded, Missed, effects, stop_of, known_tables, named_by}
 
 -- transaction ids in order
 abbrev pub xid_cmp : Xid → Xid → Ordering
@@ -76,7 +76,7 @@ recs_of (Ended f) = 0
 
 -- the fold that comes no further than here
 abbrev pub held_at : Ahead → Verdict → Folded
-held_at a v = record { n = a.n; scn = a.scn; tables = a.tables; verdict = v }
+held_at a v = record { n = a.n; scn = a.scn; tables = a.tables; names = a.standing.dictionary.tables; verdict = v }
 
 -- ---- a commit
 
@@ -153,9 +153,9 @@ entered e a = record a {
   tables = tables_then a.standing.dictionary.finished a.tables (record_after e a.standing);
 }
 
--- after a record that is admitted, or is bad
+-- after a record that is admitted, or is bad; the dictionary that a bad one leaves names its table
 abbrev pub judged : Option LawFault → List Skip → Entry → Ahead → Progress
-judged (Some fault) skips e a = Ended (held_at a (Stopped (Malformed (a.standing.rec + 1) (causes.Law fault))))
+judged (Some fault) skips e a = Ended (named_by (dictionary_left a.standing e).tables (held_at a (Stopped (Malformed (a.standing.rec + 1) (causes.Law fault)))))
 judged None skips (h, r) a = after_vectors skips r.scn (a.standing.rec + 1) 1 r.vectors (Going (entered (h, r) a))
 
 -- after one more record

@@ -8,7 +8,7 @@ use Rattle.redo_spec.specs.History.{Entry, no_history}
 use Rattle.redo_spec.specs.Standing.{Standing}
 use Rattle.redo_spec.specs.Law.{Admitted, admission}
 use Rattle.redo_spec.specs.Skips.{Skip}
-use Rattle.redo_spec.specs.Fold.{Base, Folded, folded, redo_end}
+use Rattle.redo_spec.specs.Fold.{Base, Folded, folded, redo_end, named_by}
 use Rattle.redo_law.specs.Calls.{standing_of}
 use Rattle.row_apply.specs.Soundness.{AreSound}
 use Rattle.primary.specs.declared.plain.Plain.{Plain}
@@ -21,14 +21,14 @@ tables_shown whole tables rows = if whole then assembled tables rows else []
 
 -- what a plain fold says
 abbrev pub shown : Plainly → Folded
-shown f = record { n = f.n; scn = f.scn; tables = assembled f.dict.tables f.tables; verdict = f.end }
+shown f = record { n = f.n; scn = f.scn; tables = tables_shown f.whole f.dict.tables f.tables; names = f.dict.tables; verdict = f.end }
 
 -- the base of a fold that begins so, by the dictionary that its records leave
 abbrev pub base_of : Plain → Standing → Base
 base_of start s = record { tables = tables_shown s.dictionary.finished s.dictionary.tables start.tables; n = start.n; scn = start.scn; local = [] }
 
 abbrev pub fold_admitted : Plain → List Skip → Stop → Admitted → Folded
-fold_admitted start skips stop a = folded (base_of start a.standing) skips a.history.commits (redo_end a stop)
+fold_admitted start skips stop a = named_by a.left.tables (folded (base_of start a.standing) skips a.history.commits (redo_end a stop))
 
 -- the fold of these records from there on
 abbrev pub fold_from : Plain → List Skip → List Entry → Stop → Folded

@@ -1,15 +1,16 @@
 //! The evaluator, which takes the records of a redo one by one.
-ghost use Rattle.std.specs.Prelude.{◌≡◌, ◌+◌, ◌<◌, ◌≤◌, ◌^◌, [], IfOk, OnOk, if◌then◌else◌};
+ghost use Rattle.std.specs.Prelude.{◌≡◌, ◌+◌, ◌<◌, ◌≤◌, ◌^◌, IfOk, OnOk};
+ghost use Rattle.row_apply.specs.Soundness.{AreSound};
 ghost use Rattle.primary.specs.Progress.{is_going, recs_of, after_record, end_of};
 ghost use Rattle.primary.specs.Starts.{IsStart, begun, shown};
 
 use crate::indexing::index_tables;
 use crate::live_changes::LiveChanges;
 use crate::plain::{Folded, Plain};
+use crate::plain_tables::PlainTables;
 use crate::running::Running;
 use crate::unique_index::UniqueIndex;
 use crate::writing::count_rows;
-use redo_dict::Dict;
 use redo_law::Law;
 use redo_spec::Header;
 use redo_vec::RedoRec;
@@ -27,21 +28,23 @@ pub struct Evaluator {
 
 impl Model for Evaluator {
     ghost use Rattle.std.specs.Prelude.{◌≡◌, None};
+    ghost use Rattle.row_apply.specs.Soundness.{AreSound};
     ghost use Rattle.primary.specs.Progress.{Progress};
-    ghost use Rattle.primary.specs.Running.{IsRunning, progress_of};
+    ghost use Rattle.primary.specs.Running.{IsRunning, progress_of, tables_of};
 
     ghost Value = { Progress };
 
     ghost view = { λ e. progress_of e.end e.run };
 
-    ghost invariant = { λ e. e.end ≡ None → IsRunning e.run };
+    // What a fold leaves that has ended are sound tables too.
+    ghost invariant = { λ e. (e.end ≡ None → IsRunning e.run) × AreSound (tables_of e.run) };
 }
 
 impl Evaluator {
     /// A fold that begins so. Where there is no memory, the start is dropped.
     pub fn new(alloc: Global, start: Plain) -> Result<Evaluator, NoMemory>
-        requires { IsStart start }
-        ensures { IfOk result (λ fold. fold ≡ begun start) }
+        requires fits { IsStart start }
+        ensures begun { IfOk result (λ fold. fold ≡ begun start) }
     {
         let Plain {
             law,
@@ -80,7 +83,7 @@ impl Evaluator {
     /// it any more.
     #[tactic(auto, using(crate::proofs::StepLaws::recs_after))]
     pub fn take(&mut self, head: &Header, rec: RedoRec, skips: &Skips) -> Result<bool, NoMemory>
-        requires { recs_of self.old + 1 < 2 ^ 64 }
+        requires few { recs_of self.old + 1 < 2 ^ 64 }
         ensures taken { OnOk result (self.new ≡ after_record skips.now (head.now, rec) self.old) }
         ensures going { IfOk result (λ going. going ≡ is_going self.new) }
         ensures records { OnOk result (recs_of self.new ≤ recs_of self.old + 1) }
@@ -95,20 +98,22 @@ impl Evaluator {
                 Ok(false)
             }
             Err(NoMemory) => {
-                // What is left is of no use, and no later record may come to it.
+                // What is left is of no use, and no later record may come to it. Rows half written are no tables.
+                self.run.tables = PlainTables::new(self.run.alloc);
                 self.end = Some(Verdict::Stopped(Stop::Drained));
                 Err(NoMemory)
             }
         }
     }
 
-    /// The fold, where the redo's records end so.
+    /// The fold, where the redo's records end so. Another fold may begin with its rows.
     pub fn finish(self, stop: Stop) -> Folded
-        ensures { shown result ≡ end_of stop self }
+        ensures shown { shown result ≡ end_of stop self }
+        ensures sound { AreSound (shown result).tables }
     {
         let Evaluator { run, end } = self;
         let Running {
-            alloc,
+            alloc: _,
             law,
             rec: _,
             live: _,
@@ -120,13 +125,14 @@ impl Evaluator {
             count: _,
             whole,
         } = run;
-        let dict = shown_by(alloc, law, whole);
+        let dict = law.into_dict();
         match end {
             None => Folded {
                 n,
                 scn,
                 tables,
                 dict,
+                whole,
                 end: Verdict::Stopped(stop),
             },
             Some(end) => Folded {
@@ -134,19 +140,9 @@ impl Evaluator {
                 scn,
                 tables,
                 dict,
+                whole,
                 end,
             },
         }
-    }
-}
-
-// The dictionary by which rows are shown: none of its tables is, where it was not whole.
-fn shown_by(alloc: Global, law: Law, whole: bool) -> Dict
-    ensures { result.tables ≡ (if whole then law.dictionary.tables else []) }
-{
-    if whole {
-        law.into_dict()
-    } else {
-        Dict::new(alloc)
     }
 }

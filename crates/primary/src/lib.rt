@@ -1,4 +1,5 @@
-//! The plain evaluator: committed transactions one after another over ordered maps, a reference for every other way.
+//! The reference evaluator: committed transactions one after another over ordered maps, which every other way to apply a
+//! redo is compared with.
 #![tactic(auto)]
 
 mod based;

@@ -71,8 +71,10 @@ pub struct Folded {
     pub scn: Scn,
     /// The rows after it.
     pub tables: PlainTables,
-    /// The dictionary by which the rows are tables. It has no table where it was not whole before the end.
+    /// The dictionary that the records leave; its tables name those of the end.
     pub dict: Dict,
+    /// The dictionary was whole before the end, so that the rows are its tables. Else no table is shown, and there is no row.
+    pub whole: bool,
     /// Why the fold goes no further.
     pub end: Verdict,
 }
@@ -87,6 +89,7 @@ impl Folded {
             scn: self.scn,
             tables: self.tables.copy()?,
             dict: self.dict.copy()?,
+            whole: self.whole,
             end: self.end.copy()?,
         })
     }

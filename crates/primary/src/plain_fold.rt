@@ -1,6 +1,7 @@
 //! The fold of a list of records.
 ghost use Rattle.std.specs.Prelude.{◌≡◌, ◌+◌, ◌<◌, ◌^◌, length, IfOk};
 ghost use Rattle.rl_value.specs.declared.verdict.Stop.TheVariants.{Drained};
+ghost use Rattle.row_apply.specs.Soundness.{AreSound};
 ghost use Rattle.primary.specs.Starts.{IsStart, fold_from, shown};
 
 use crate::evaluator::Evaluator;
@@ -12,7 +13,7 @@ use rl_value::{NoMemory, Stop};
 use skip_guard::Skips;
 use std::alloc::Global;
 
-/// The fold of these records from the start on, with all of the redo read.
+/// The fold of these records from the start on, with all of the redo read. Another fold may begin with its rows.
 pub fn fold_plain(
     alloc: Global,
     start: Plain,
@@ -21,7 +22,8 @@ pub fn fold_plain(
 ) -> Result<Folded, NoMemory>
     requires fits { IsStart start }
     requires few { start.law.rec + length recs.now < 2 ^ 64 }
-    ensures { IfOk result (λ folded. shown folded ≡ fold_from start skips.now recs.now Drained) }
+    ensures folded { IfOk result (λ folded. shown folded ≡ fold_from start skips.now recs.now Drained) }
+    ensures sound { IfOk result (λ folded. AreSound (shown folded).tables) }
 {
     let mut fold = Evaluator::new(alloc, start)?;
     for (head, rec) in recs {

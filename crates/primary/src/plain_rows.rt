@@ -4,7 +4,7 @@ ghost use Rattle.std.specs.Option.{option_copied};
 ghost use Rattle.std.specs.Ordering.{eq_by_cmp};
 ghost use Rattle.std.specs.FinMap.Entries.{find, put, where_key, is_sorted};
 ghost use Rattle.rl_value.specs.Order.{row_cmp, value_cmp};
-ghost use Rattle.redo_spec.specs.Tables.{owner_in, value_in, values_at};
+ghost use Rattle.redo_spec.specs.Tables.{value_in, values_at};
 
 use rl_value::{NoMemory, Row, Value};
 use std::alloc::Global;
@@ -71,18 +71,6 @@ impl PlainRows {
         ensures was { result ≡ find row_cmp key.now self.old }
     {
         self.rows.remove(key)
-    }
-
-    /// The key of the first row that has these values in these columns.
-    pub fn first_with(&self, columns: &[u8], values: &Row) -> Option<&Row>
-        ensures { option_copied result ≡ owner_in self.now columns.now values.now }
-    {
-        for (key, row) in self.rows.iter() {
-            if has_values(row, columns, values.values()) {
-                return Some(key);
-            }
-        }
-        None
     }
 
     #[tactic(auto, using(crate::proofs::MapLemmas::sorted_is))]

@@ -3,7 +3,7 @@ ghost use Rattle.std.specs.Prelude.{◌≡◌, ◌<◌, ◌^◌, IfOk, OnOk, OnE
 ghost use Rattle.std.specs.Option.{option_copied};
 ghost use Rattle.std.specs.FinMap.Entries.{find};
 ghost use Rattle.rl_value.specs.Order.{row_cmp};
-ghost use Rattle.redo_spec.specs.Tables.{rows_by, owner_in};
+ghost use Rattle.redo_spec.specs.Tables.{rows_by};
 ghost use Rattle.primary.specs.ById.{with_row, without_row, put_beside, take_from, table_in, written_beside};
 
 use crate::plain_rows::PlainRows;
@@ -48,17 +48,6 @@ impl PlainTables {
         match self.tables.get(&table) {
             None => None,
             Some(rows) => rows.get(key),
-        }
-    }
-
-    /// The primary key of the first row of the table that has these values in these columns. It walks the table.
-    #[tactic(auto, using(crate::proofs::MapLemmas::rows_by_is))]
-    pub fn first_with(&self, table: u32, columns: &[u8], values: &Row) -> Option<&Row>
-        ensures { option_copied result ≡ owner_in (rows_by self.now table) columns.now values.now }
-    {
-        match self.tables.get(&table) {
-            None => None,
-            Some(rows) => rows.first_with(columns, values),
         }
     }
 

@@ -30,7 +30,8 @@ pub struct Running {
     pub index: UniqueIndex,
     /// How many rows there are.
     pub count: u64,
-    /// The dictionary is whole.
+    /// The dictionary is whole, as of the last admitted record; a refused one may have ended it in law, and then no table is
+    /// shown.
     pub whole: bool,
 }
 
@@ -84,6 +85,7 @@ impl Running {
         ensures whole { IfOk result (λ end. self.new.whole ≡ self.old.whole) }
     {
         let Some(made) = self.made.checked_add(1) else {
+            // No redo has 2^64 commits; the answer without a cause stands for it.
             return Err(NoMemory);
         };
         if self.made < self.n {
@@ -153,6 +155,7 @@ impl Running {
         requires running { IsRunning self.old }
         requires room { self.old.law.rec + 1 < 2 ^ 64 }
         ensures running { IfOk result (λ end. end ≡ None → IsRunning self.new) }
+        ensures sound { IfOk result (λ end. AreSound (tables_of self.new)) }
         ensures taken { IfOk result (λ end. progress_of end self.new ≡ after_record skips.now (head.now, rec) (Going (ahead_of self.old))) }
     {
         match self.law.admit(head, &rec) {

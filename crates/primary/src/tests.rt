@@ -189,6 +189,7 @@ fn a_fold_that_has_ended_takes_no_more(rt: HostRuntime) -> Result<(), Fail> {
     assert_eq!(rt; fold.take(&HEAD, dictionary.1, &skips)?, false);
     let shown = fold.finish(Stop::Drained);
     assert_eq!(rt; shown.n, 0);
+    assert_eq!(rt; shown.whole, false);
     assert_eq!(rt; shown.dict.tables().len(), 0);
     Ok(())
 }
@@ -302,7 +303,7 @@ fn transaction(alloc: Global, recs: &mut Vec<(Header, RedoRec)>, coded: Coded) -
     Ok(())
 }
 
-// The dictionary, so many of the transactions, and one that inserts row 3 with this code.
+// The dictionary, so many of the transactions, and one that inserts the row of ID 3 with this code.
 fn coded_redo(alloc: Global, count: usize, code: i64) -> Result<Vec<(Header, RedoRec)>, Fail> {
     let table = Vector::Table(coded_table(alloc)?);
     let dictionary = two(alloc, 100, table, Vector::DictEnd)?;

@@ -2,16 +2,17 @@
 //!
 //! Each unique value of a row leads to the row's primary key. A write takes away what led to the row that stood there, so
 //! no more values are kept than rows have; still, what the index answers is looked at again in the rows.
-ghost use Rattle.std.specs.Prelude.{◌≡◌, ◌==◌, OnOk, cond, true, false};
+ghost use Rattle.std.specs.Prelude.{◌≡◌, ◌==◌, OnOk, None, cond, true, false};
 ghost use Rattle.std.specs.BTreeMap as tree;
 ghost use Rattle.std.specs.Option.{option_copied};
 ghost use Rattle.rl_value.specs.Order.{key_cmp};
 ghost use Rattle.rl_value.specs.declared.key.Key.{Key};
 ghost use Rattle.primary.specs.Unique.{is_key, leads, entered, left};
 
-use crate::unique_values::{unique_keys, unique_value};
+use crate::unique_values::unique_value;
 use redo_vec::TableRow;
 use rl_value::{Key, NoMemory, Row};
+use row_apply::unique_keys;
 use std::alloc::Global;
 use std::collections::BTreeMap;
 
@@ -28,7 +29,9 @@ impl UniqueIndex {
     ghost use Rattle.row_apply.specs.Soundness.{AreSoundRows};
 
     /// No value. It takes no memory yet.
-    pub fn new(alloc: Global) -> UniqueIndex {
+    pub fn new(alloc: Global) -> UniqueIndex
+        ensures empty { (q : Key) → lead_of result q ≡ None }
+    {
         UniqueIndex {
             alloc,
             owners: BTreeMap::new(alloc),

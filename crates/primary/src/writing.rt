@@ -26,6 +26,7 @@ fn plus(count: u64, more: u64) -> Result<u64, NoMemory>
     ensures { IfOk result (λ sum. sum ≡ count + more) }
 {
     match count.checked_add(more) {
+        // No store has 2^64 rows; the answer without a cause stands for it.
         None => Err(NoMemory),
         Some(sum) => Ok(sum),
     }

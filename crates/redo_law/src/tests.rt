@@ -218,17 +218,18 @@ fn name_of(fault: AdmitFault) -> &'static str {
     }
 }
 
-// A law before the first record of a standby whose first log is log 1.
-fn law_over(alloc: Global, dict: Dict) -> Result<Law, Fail>
-    ensures { IfOk result (λ law. law.rec ≡ 0) }
+// A law of a standby whose first log is log 1, behind so many records, of which transactions that are not known may have
+// vectors up to this one.
+fn law_behind(alloc: Global, dict: Dict, rec: u64, known: u64) -> Result<Law, Fail>
+    ensures { IfOk result (λ law. law.rec ≡ rec) }
 {
     let start = LawStart {
         first: 1,
         base: 99,
         dict,
         head: None,
-        rec: 0,
-        known: 0,
+        rec,
+        known,
         scn: 99,
         commit_scn: 99,
     };
@@ -236,6 +237,13 @@ fn law_over(alloc: Global, dict: Dict) -> Result<Law, Fail>
         Ok(law) => Ok(law),
         Err(_) => Err(Fail::new("no memory")),
     }
+}
+
+// A law before the first record.
+fn law_over(alloc: Global, dict: Dict) -> Result<Law, Fail>
+    ensures { IfOk result (λ law. law.rec ≡ 0) }
+{
+    law_behind(alloc, dict, 0, 0)
 }
 
 // A dictionary that has T.A and is whole.
@@ -250,9 +258,9 @@ fn whole(alloc: Global) -> Result<Dict, Fail> {
 }
 
 // The first reason against one of these steps, each in a record of its own.
-fn verdict(alloc: Global, dict: Dict, steps: &[Step]) -> Result<&'static str, Fail> {
-    let _count = steps.len();
-    let mut law = law_over(alloc, dict)?;
+fn reason(alloc: Global, mut law: Law, steps: &[Step]) -> Result<&'static str, Fail>
+    requires { law.rec + length steps.now < 2 ^ 64 }
+{
     let mut rest = steps;
     while let [step, others @ ..] = rest {
         if let Err(fault) = law.admit(&head(), &rec_of(alloc, *step)?) {
@@ -261,6 +269,18 @@ fn verdict(alloc: Global, dict: Dict, steps: &[Step]) -> Result<&'static str, Fa
         rest = others;
     }
     Ok("none")
+}
+
+// The same from the first record on.
+fn verdict(alloc: Global, dict: Dict, steps: &[Step]) -> Result<&'static str, Fail> {
+    let _count = steps.len();
+    reason(alloc, law_over(alloc, dict)?, steps)
+}
+
+// The same from record 3 on, where transactions that are not known may have vectors up to this record.
+fn verdict_behind(alloc: Global, known: u64, steps: &[Step]) -> Result<&'static str, Fail> {
+    let _count = steps.len();
+    reason(alloc, law_behind(alloc, whole(alloc)?, 2, known)?, steps)
 }
 
 #[test]
@@ -299,6 +319,35 @@ fn a_record_has_its_cause(rt: HostRuntime) -> Result<(), Fail> {
     for (steps, want) in cases {
         let alloc = rt.alloc();
         assert_eq!(rt; verdict(alloc, whole(alloc)?, steps)?, want);
+    }
+    Ok(())
+}
+
+// Records 3, 4 and 5 are known, where 5 stands.
+#[test]
+fn unknown_transactions_are_passed_over(rt: HostRuntime) -> Result<(), Fail> {
+    use Step::{Commit, Insert, InsertNull, Rollback, Start, Undo};
+    let cases: [(u64, &'static [Step], &'static str); 9] = [
+        (5, &[InsertNull(3), Undo(3), Rollback(3)], "none"),
+        (5, &[Insert(3, 7), Insert(3, 8), Commit(3)], "none"),
+        // Behind the last known record nothing is passed over.
+        (4, &[Insert(3, 7), Insert(3, 8), Commit(3)], "not open"),
+        (5, &[Start(4), Insert(4, 7), Commit(4), Undo(3)], "not open"),
+        (2, &[Commit(3)], "not open"),
+        (0, &[Rollback(3)], "not open"),
+        // What is passed over holds no key, and its COMMIT counts.
+        (5, &[Insert(3, 7), Start(4), Insert(4, 7)], "none"),
+        (5, &[Commit(3), Start(4), Commit(4)], "scn"),
+        // A transaction that is known is judged.
+        (5, &[Start(3), InsertNull(3)], "types"),
+    ];
+    for (known, steps, want) in cases {
+        let alloc = rt.alloc();
+        assert_eq!(rt;
+            verdict_behind(alloc, known, steps)?,
+            want,
+            "with {known} known"
+        );
     }
     Ok(())
 }

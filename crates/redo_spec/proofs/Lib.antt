@@ -1,5 +1,13 @@
+pub mod ListLaws
 pub mod FoldLaws
+pub mod ReachLaws
 pub mod LockLaws
 pub mod EffectLaws
 pub mod StandingLaws
+pub mod AdmissionLaws
+pub mod MarkStandings
+pub mod MarkHistories
+pub mod MarkRanges
+pub mod MarkLaws
 pub mod LogLaws
+pub mod LogSound

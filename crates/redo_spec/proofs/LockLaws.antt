@@ -12,7 +12,7 @@ use Rattle.redo_spec.specs.ConflictKeys.{conflict_keys}
 use Rattle.redo_spec.specs.Standing.{Standing}
 use Rattle.redo_spec.specs.Locks.{held_keys, least, contended, lock_fault}
 
-least_none : (ks : List (Key × Xid)) → least ks ≡ None → ks ≡ []
+pub least_none : (ks : List (Key × Xid)) → least ks ≡ None → ks ≡ []
 least_none [] e = refl
 least_none (k ∷ ks) e = absurd (cc)
 
@@ -25,7 +25,7 @@ filter_none : {A : Type 0} (p : A → Bool) (xs : List A) → filter p xs ≡ []
 filter_none p [] e = tt
 filter_none p (x ∷ xs) e = filter_case p x xs (p x) refl e (filter_none p xs)
 
-option_map_none : {A B : Type 0} (f : A → B) (o : Option A) → option_map f o ≡ None → o ≡ None
+pub option_map_none : {A B : Type 0} (f : A → B) (o : Option A) → option_map f o ≡ None → o ≡ None
 option_map_none f None e = refl
 option_map_none f (Some x) e = absurd (cc)
 

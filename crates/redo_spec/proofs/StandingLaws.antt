@@ -12,15 +12,15 @@ use Rattle.redo_vec.specs.declared.vector.Vector.{Vector}
 use Rattle.redo_vec.specs.declared.vector.Vector.TheVariants.{Start, Change as OfChange, Undo, Commit, Rollback, Table, DictEnd}
 use Rattle.redo_spec.specs.declared.header.Header.{Header}
 use Rattle.redo_spec.specs.ConflictKeys.{conflict_keys}
-use Rattle.redo_spec.specs.Dictionary.{dictionary_after}
+use Rattle.redo_spec.specs.Dictionary.{Dictionary, dictionary_after}
 use Rattle.redo_spec.specs.History.{Entry, Txn, History, same_xid, changed, undone, after_vector, after_vectors, history_after, no_history}
 use Rattle.redo_spec.specs.Standing.{Standing, beginning, with_open, touching, giving_back, closed, standing_after, standing_after_all, entered, record_after, open_txn, open_txns}
-use Rattle.redo_spec.specs.Law.{Admitted, dictionary_fault, vector_fault, vectors_fault, whole_fault, record_fault, admitted_or, admission}
+use Rattle.redo_spec.specs.Law.{Admitted, dictionary_fault, vector_fault, vectors_fault, whole_fault, record_fault, dictionary_left, admitted_or, admission}
 
 -- they agree, and before the dictionary is whole no transaction is open
-record Agrees (s : Standing) (h : History) : Type 0 where
-  same : s.active ≡ open_txns s.dictionary.tables h.active
-  none : s.dictionary.finished ≡ false → h.active ≡ []
+pub record Agrees (s : Standing) (h : History) : Type 0 where
+  pub same : s.active ≡ open_txns s.dictionary.tables h.active
+  pub none : s.dictionary.finished ≡ false → h.active ≡ []
 
 -- ---- lists
 
@@ -35,7 +35,7 @@ map_chosen view f g p q tests changes (x ∷ xs) =
       | false ↦ ap (λ ys. view x ∷ ys) (map_chosen view f g p q tests changes xs)
     ]
 
-filter_seen : {A B : Type 0} (view : A → B) (p : A → Bool) (q : B → Bool) → ((x : A) → q (view x) ≡ p x) → (xs : List A) → filter q (map view xs) ≡ map view (filter p xs)
+pub filter_seen : {A B : Type 0} (view : A → B) (p : A → Bool) (q : B → Bool) → ((x : A) → q (view x) ≡ p x) → (xs : List A) → filter q (map view xs) ≡ map view (filter p xs)
 filter_seen view p q tests [] = refl
 filter_seen view p q tests (x ∷ xs) =
     ap (λ b. cond b (view x ∷ filter q (map view xs)) (filter q (map view xs))) (tests x)
@@ -46,15 +46,15 @@ filter_seen view p q tests (x ∷ xs) =
 
 -- ---- tests
 
-none_first : {A : Type 0} (o p : Option A) → option_or o p ≡ None → o ≡ None
+pub none_first : {A : Type 0} (o p : Option A) → option_or o p ≡ None → o ≡ None
 none_first None p e = refl
 none_first (Some x) p e = absurd (cc)
 
-none_second : {A : Type 0} (o p : Option A) → option_or o p ≡ None → p ≡ None
+pub none_second : {A : Type 0} (o p : Option A) → option_or o p ≡ None → p ≡ None
 none_second None p e = e
 none_second (Some x) p e = absurd (cc)
 
-no_fault : (test : Bool) (fault : LawFault) → first_fault ((test, fault) ∷ []) ≡ None → test ≡ false
+pub no_fault : (test : Bool) (fault : LawFault) → first_fault ((test, fault) ∷ []) ≡ None → test ≡ false
 no_fault false fault e = refl
 no_fault true fault e = absurd (cc)
 
@@ -83,7 +83,7 @@ giving_seen tables t =
     ap (λ n. record { start = t.start; xid = t.xid; keys = take (n - 1) (map (λ p. conflict_keys tables p.1) t.survivors) }) (length-map t.survivors (λ p. conflict_keys tables p.1))
     ∙ ap (λ keys. record { start = t.start; xid = t.xid; keys = keys }) (take-map (λ p. conflict_keys tables p.1) (length t.survivors - 1) t.survivors)
 
-agrees_after : (h : Header) (vec : ℕ) (v : Vector) (s : Standing) (hist : History) → Agrees s hist → dictionary_fault h s v ≡ None →
+pub agrees_after : (h : Header) (vec : ℕ) (v : Vector) (s : Standing) (hist : History) → Agrees s hist → dictionary_fault h s v ≡ None →
     Agrees (standing_after vec v s) (after_vector s.scn (record { rec = s.rec; vec = vec }) v hist)
 agrees_after h vec (Start x) s hist a fits =
     let at : Pos = record { rec = s.rec; vec = vec } in
@@ -136,15 +136,15 @@ agrees_after_record : (e : Entry) (s : Standing) (hist : History) → Agrees s h
 agrees_after_record (h, r) s hist a fits =
     agrees_after_all h 1 r.vectors (entered (h, r) s) hist (record { same = a.same; none = a.none }) (none_second (whole_fault s (h, r)) _ fits)
 
-agrees_or : (o : Option LawFault) (s : Standing) (hist : History) (later : Admitted) → Agrees s hist → (o ≡ None → Agrees later.standing later.history) →
-    Agrees (admitted_or o s hist later).standing (admitted_or o s hist later).history
-agrees_or None s hist later a more = more refl
-agrees_or (Some fault) s hist later a more = a
+agrees_or : (o : Option LawFault) (left : Dictionary) (s : Standing) (hist : History) (later : Admitted) → Agrees s hist → (o ≡ None → Agrees later.standing later.history) →
+    Agrees (admitted_or o left s hist later).standing (admitted_or o left s hist later).history
+agrees_or None left s hist later a more = more refl
+agrees_or (Some fault) left s hist later a more = a
 
 agrees_in : (s : Standing) (hist : History) (es : List Entry) → Agrees s hist → Agrees (admission s hist es).standing (admission s hist es).history
 agrees_in s hist [] a = a
 agrees_in s hist (e ∷ es) a =
-    agrees_or (record_fault s e) s hist (admission (record_after e s) (history_after (s.rec + 1) e hist) es) a
+    agrees_or (record_fault s e) (dictionary_left s e) s hist (admission (record_after e s) (history_after (s.rec + 1) e hist) es) a
     (λ fits. agrees_in (record_after e s) (history_after (s.rec + 1) e hist) es (agrees_after_record e s hist a fits))
 
 -- in every redo, from its first record on

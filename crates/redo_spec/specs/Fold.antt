@@ -12,6 +12,7 @@ use Rattle.rl_value.specs.declared.verdict.Stop.TheVariants.{Malformed}
 use Rattle.rl_value.specs.declared.verdict.Verdict.{Verdict}
 use Rattle.rl_value.specs.declared.verdict.Verdict.TheVariants.{Stopped, Mismatch, RowLimit}
 use Rattle.rl_value.specs.Outcome.{◌>>=◌, map_err, map_ok}
+use Rattle.redo_vec.specs.declared.table.TableRow.{TableRow}
 use Rattle.redo_spec.specs.Tables.{Table, Tables, row_count, definitions_of, empty_tables}
 use Rattle.redo_spec.specs.Effect.{effect}
 use Rattle.redo_spec.specs.History.{Entry, Placed, Committed, Commits, commits_after, no_history}
@@ -113,11 +114,13 @@ abbrev pub verdict_of : Option Verdict → Stop → Verdict
 verdict_of None stop = Stopped stop
 verdict_of (Some v) stop = v
 
--- a fold's count and SCN, its tables, and why it goes no further
+-- A fold's count and SCN, its tables, and why it goes no further; and the definitions that name the tables of that
+-- reason. They are those of the tables, unless the redo ends with the record that would have made the dictionary whole.
 pub record Folded : Type 0 where
   pub n : ℕ
   pub scn : ℕ
   pub tables : Tables
+  pub names : List TableRow
   pub verdict : Verdict
 
 abbrev pub tables_or_base : Base → Result Tables Missed → Tables
@@ -129,6 +132,7 @@ folded_to b skips cs stop r = record {
   n = r.n;
   scn = scn_at b cs r.n;
   tables = tables_or_base b (tables_at b skips cs r.n);
+  names = definitions_of b.tables;
   verdict = verdict_of r.stop stop;
 }
 
@@ -150,8 +154,12 @@ known_tables s = if s.dictionary.finished then empty_tables s.dictionary.tables 
 abbrev pub empty_base : ℕ → Standing → Base
 empty_base base s = record { tables = known_tables s; n = 0; scn = base; local = [] }
 
+-- a fold whose reason names tables by these definitions
+abbrev pub named_by : List TableRow → Folded → Folded
+named_by names f = record f { names = names }
+
 abbrev pub fold_of_admitted : ℕ → Stop → Admitted → Folded
-fold_of_admitted base stop a = folded (empty_base base a.standing) [] a.history.commits (redo_end a stop)
+fold_of_admitted base stop a = named_by a.left.tables (folded (empty_base base a.standing) [] a.history.commits (redo_end a stop))
 
 -- the fold of a redo over empty tables, whose first log has this sequence and follows this SCN
 abbrev pub fold_of_redo : ℕ → ℕ → List Entry → Stop → Folded

@@ -1,7 +1,7 @@
 -- Admission: which record may follow in the redo, and the first that may not.
 -- A record is tested as a whole first (the chain of logs, its SCN, COMMIT and ROLLBACK alone), and then vector by vector;
 -- the first cause counts. The causes and their order are this project's own.
-use Rattle.std.specs.Prelude.{ℕ, ◌+◌, ◌^◌, List, [], ◌∷◌, length, Bool, true, false, not, ◌&&◌, ◌||◌, nat_lt, nat_le, ◌==◌, Option, Some, None}
+use Rattle.std.specs.Prelude.{ℕ, ◌≡◌, ◌+◌, ◌^◌, List, [], ◌∷◌, ◌++◌, length, Bool, true, false, not, ◌&&◌, ◌||◌, nat_lt, nat_le, ◌==◌, Option, Some, None}
 use Rattle.std.specs.List.{list_any}
 use Rattle.std.specs.Option.{option_or, option_map_or}
 use Rattle.rl_value.specs.declared.xid.Xid.{Xid}
@@ -15,8 +15,8 @@ use Rattle.redo_spec.specs.declared.header.Header.{Header}
 use Rattle.redo_spec.specs.Dictionary.{Dictionary, table_fault, is_of_dictionary}
 use Rattle.redo_spec.specs.ChangeForm.{change_fault}
 use Rattle.redo_spec.specs.Locks.{lock_fault}
-use Rattle.redo_spec.specs.History.{Entry, History, same_xid, history_after}
-use Rattle.redo_spec.specs.Standing.{Standing, is_open, survivor_count, standing_after, entered, record_after}
+use Rattle.redo_spec.specs.History.{Entry, History, same_xid, history_after, history_at}
+use Rattle.redo_spec.specs.Standing.{Standing, is_open, survivor_count, standing_after, entered, record_after, standing_at}
 
 -- the most surviving changes that open transactions may have together
 abbrev pub open_limit : ℕ
@@ -114,18 +114,33 @@ dictionary_left s (h, r) = option_map_or (λ fault. s.dictionary) (whole_fault s
 
 -- ---- the redo
 
--- what the records before the first bad one leave, and why the next is bad, if one is
+-- What the records before the first bad one leave, and why the next is bad, if one is; and the dictionary, to which
+-- the vectors of a bad record before its bad one still count.
 pub record Admitted : Type 0 where
   pub standing : Standing
   pub history : History
   pub fault : Option LawFault
+  pub left : Dictionary
 
--- a fault ends what is admitted
-abbrev pub admitted_or : Option LawFault → Standing → History → Admitted → Admitted
-admitted_or (Some fault) s history later = record { standing = s; history = history; fault = Some fault }
-admitted_or None s history later = later
+-- a fault ends what is admitted, and leaves this dictionary
+abbrev pub admitted_or : Option LawFault → Dictionary → Standing → History → Admitted → Admitted
+admitted_or (Some fault) left s history later = record { standing = s; history = history; fault = Some fault; left = left }
+admitted_or None left s history later = later
 
 -- the admission of these records, in order
 abbrev pub admission : Standing → History → List Entry → Admitted
-admission s history [] = record { standing = s; history = history; fault = None }
-admission s history (e ∷ es) = admitted_or (record_fault s e) s history (admission (record_after e s) (history_after (s.rec + 1) e history) es)
+admission s history [] = record { standing = s; history = history; fault = None; left = s.dictionary }
+admission s history (e ∷ es) =
+    admitted_or (record_fault s e) (dictionary_left s e) s history (admission (record_after e s) (history_after (s.rec + 1) e history) es)
+
+-- The first record that may not follow, with this fault: those before it are well, and what is admitted is what they leave.
+pub record IsFirstBad (s : Standing) (h : History) (es : List Entry) (found : LawFault) : Type 0 where
+  pub front : List Entry
+  pub bad : Entry
+  pub back : List Entry
+  pub split : es ≡ front ++ bad ∷ back
+  pub fit : (admission s h front).fault ≡ None
+  pub refused : record_fault (standing_at s front) bad ≡ Some found
+  pub standing : (admission s h es).standing ≡ standing_at s front
+  pub history : (admission s h es).history ≡ history_at s.rec front h
+  pub left : (admission s h es).left ≡ dictionary_left (standing_at s front) bad

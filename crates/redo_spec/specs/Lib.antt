@@ -10,6 +10,7 @@ pub mod History
 pub mod Standing
 pub mod Locks
 pub mod Law
+pub mod Mark
 pub mod Skips
 pub mod Fold
 pub mod Redo
@@ -18,3 +19,4 @@ pub mod Work
 pub mod Alike
 pub mod Lines
 pub mod Worked
+pub mod WorkedBytes

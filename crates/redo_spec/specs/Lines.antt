@@ -24,7 +24,7 @@ use Rattle.rl_value.specs.declared.verdict.Verdict.TheVariants.{Stopped, Mismatc
 use Rattle.redo_vec.specs.declared.table.TableRow.{TableRow}
 use Rattle.redo_spec.specs.Dictionary.{table_of}
 use Rattle.redo_spec.specs.Skips.{full_name}
-use Rattle.redo_spec.specs.Tables.{Table, definitions_of}
+use Rattle.redo_spec.specs.Tables.{Table}
 use Rattle.redo_spec.specs.Fold.{Folded}
 use Rattle.rl_value.specs.Literal.{literal, row_text, key_text, xid_text}
 
@@ -129,4 +129,4 @@ abbrev pub fold_lines : Folded → List Line
 fold_lines f =
     words (codes "APPLIED_SCN" ∷ decimal f.scn ∷ [])
     ∷ flat_map table_lines f.tables
-    ++ end_line (definitions_of f.tables) f.scn f.n f.verdict ∷ []
+    ++ end_line f.names f.scn f.n f.verdict ∷ []

@@ -2,6 +2,7 @@
 -- HR.EMP has ID, a number and the primary key, and NAME and EMAIL, texts that may be Null; EMAIL is a unique key. Log 1 is of
 -- database 9 with SCNs 100 to 199, and its record 1 at SCN 100 has the dictionary.
 use Rattle.std.specs.Prelude.{ℕ, ◌+◌, ◌-◌, pos, List, [], ◌∷◌, ◌++◌, map, length, take, replicate, true, false, codes, if◌then◌else◌, ◌==◌, Option, Some, None}
+use Rattle.std.specs.List.{flat_map}
 use Rattle.rl_value.specs.declared.value.Value.{Value}
 use Rattle.rl_value.specs.declared.value.Value.TheVariants.{Null, Number, Text}
 use Rattle.rl_value.specs.declared.xid.Xid.{Xid}
@@ -10,6 +11,7 @@ use Rattle.rl_value.specs.declared.verdict.Stop.TheVariants.{Drained}
 use Rattle.redo_vec.specs.declared.change.Change.{Change}
 use Rattle.redo_vec.specs.declared.change.Op.TheVariants.{Insert, Update, Delete}
 use Rattle.redo_vec.specs.declared.columns.Column.{Column}
+use Rattle.redo_vec.specs.declared.columns.Kind.{Kind}
 use Rattle.redo_vec.specs.declared.columns.Kind.TheVariants as kinds
 use Rattle.redo_vec.specs.declared.table.TableRow.{TableRow}
 use Rattle.redo_vec.specs.declared.vector.Vector.{Vector}
@@ -18,14 +20,16 @@ use Rattle.redo_vec.specs.declared.redo_rec.RedoRec.{RedoRec}
 use Rattle.redo_spec.specs.declared.header.Header.{Header}
 use Rattle.redo_spec.specs.Log.{Log, log_bytes}
 use Rattle.redo_spec.specs.History.{Entry, Commits, no_history}
+use Rattle.redo_spec.specs.Tables.{Tables}
 use Rattle.redo_spec.specs.Standing.{beginning}
 use Rattle.redo_spec.specs.Law.{admission}
+use Rattle.redo_spec.specs.Mark.{resumed}
 use Rattle.redo_spec.specs.ConflictKeys.{conflict_keys}
 use Rattle.redo_spec.specs.Watermark.{watermark_at}
 use Rattle.redo_spec.specs.Skips.{Skip}
-use Rattle.redo_spec.specs.Fold.{folded, empty_base, fold_of_redo, redo_end}
-use Rattle.redo_spec.specs.Redo.{fold_of_log, mined_redo}
-use Rattle.redo_spec.specs.Lines.{fold_lines}
+use Rattle.redo_spec.specs.Fold.{folded, empty_base, known_tables, visible_tables, fold_of_redo, redo_end}
+use Rattle.redo_spec.specs.Redo.{fold_of_log, mined_redo, redo_from}
+use Rattle.redo_spec.specs.Lines.{fold_lines, table_lines}
 
 -- a record at this SCN
 abbrev pub rec : ℕ → List Vector → RedoRec
@@ -347,6 +351,31 @@ freed_commits = (admission (beginning 1 99) (no_history 0) (emp_entries freed_va
 abbrev pub later_watermark : ℕ
 later_watermark = watermark_at [] (emp ∷ []) freed_commits (record { rec = 6; vec = 2 }) (conflict_keys (emp ∷ []) later_insert)
 
+-- ---- behind a mark
+
+-- three transactions side by side
+abbrev pub side_by_side : List RedoRec
+side_by_side =
+    rec 101 (start 1 ∷ row 1 1 ∷ [])
+    ∷ rec 102 (start 2 ∷ row 2 2 ∷ [])
+    ∷ rec 103 (Commit (one_of 1) ∷ [])
+    ∷ rec 104 (start 3 ∷ row 3 3 ∷ [])
+    ∷ rec 105 (Commit (one_of 2) ∷ [])
+    ∷ rec 106 (Commit (one_of 3) ∷ [])
+    ∷ []
+
+-- the fold of it by a run from record 3 on over the row of commit 1, where records up to this one may be of transactions
+-- that began before
+abbrev pub folded_behind : ℕ → List (List ℕ)
+folded_behind known =
+    let a = resumed 1 99 (emp_entries side_by_side) 2 known in
+    fold_lines (folded (record {
+      tables = record { row = emp; rows = (n 1 ∷ [], n 1 ∷ Null ∷ Null ∷ []) ∷ [] } ∷ [];
+      n = 1;
+      scn = 103;
+      local = [];
+    }) [] a.history.commits (redo_end a Drained))
+
 -- ---- skips
 
 -- the fold of records under skip rules
@@ -366,3 +395,167 @@ mined_logs dbid seq =
 
 abbrev pub mined_stop : ℕ → ℕ → Stop
 mined_stop dbid last = (mined_redo (mined_logs dbid) 1 last).stop
+
+-- ---- transactions that end in another way, or side by side
+
+-- a transaction is rolled back, and another takes its key
+abbrev pub rolled_back : List RedoRec
+rolled_back =
+    rec 101 (start 1 ∷ row 1 1 ∷ []) ∷ rec 102 (Rollback (one_of 1) ∷ [])
+    ∷ rec 103 (start 2 ∷ insert 2 (n 1) (Text (codes "New")) Null ∷ []) ∷ rec 104 (Commit (one_of 2) ∷ [])
+    ∷ []
+
+-- an insert is taken back; another transaction takes its key and commits; the first one then updates that row
+abbrev pub undone_insert : List RedoRec
+undone_insert =
+    rec 101 (start 1 ∷ row 1 1 ∷ row 1 2 ∷ [])
+    ∷ rec 103 (Undo (one_of 1) ∷ [])
+    ∷ rec 104 (start 2 ∷ insert 2 (n 2) (Text (codes "U")) Null ∷ [])
+    ∷ rec 105 (Commit (one_of 2) ∷ [])
+    ∷ rec 106 (update 1 ((0, n 2) ∷ (1, Text (codes "U")) ∷ []) ((1, Text (codes "T")) ∷ []) ∷ [])
+    ∷ rec 107 (Commit (one_of 1) ∷ [])
+    ∷ []
+
+-- an update of a row that is not there, by a transaction that is rolled back
+abbrev pub missed_and_rolled_back : List RedoRec
+missed_and_rolled_back =
+    rec 101 (start 1 ∷ [])
+    ∷ rec 102 (update 1 ((0, n 1) ∷ (1, Text (codes "A")) ∷ []) ((1, Text (codes "B")) ∷ []) ∷ [])
+    ∷ rec 103 (Rollback (one_of 1) ∷ [])
+    ∷ []
+
+-- ---- locks
+
+-- an open transaction has given a unique value up, and another takes it
+abbrev pub given_up_value : List RedoRec
+given_up_value =
+    rec 101 (start 4 ∷ insert 4 (n 1) (Text (codes "A")) (Text (codes "x@a")) ∷ []) ∷ rec 102 (Commit (one_of 4) ∷ [])
+    ∷ rec 103 (start 1 ∷ update 1 ((0, n 1) ∷ (2, Text (codes "x@a")) ∷ []) ((2, Null) ∷ []) ∷ [])
+    ∷ rec 104 (start 2 ∷ with_email 2 2 (codes "x@a") ∷ [])
+    ∷ []
+
+-- ---- several registered logs
+
+-- a log of ten SCNs, with its sequence
+abbrev pub log_at : ℕ → ℕ → List RedoRec → ℕ × List ℕ
+log_at seq first records = (
+  seq,
+  log_bytes (record {
+    head = record { seq = seq; dbid = 9; first = first; next = first + 10; count = length records };
+    records = records;
+  }),
+)
+
+abbrev pub log_1 : ℕ × List ℕ
+log_1 = log_at 1 100 (rec 100 (Table emp ∷ DictEnd ∷ []) ∷ rec 101 (start 1 ∷ row 1 1 ∷ []) ∷ rec 102 (Commit (one_of 1) ∷ []) ∷ [])
+
+abbrev pub log_2 : ℕ × List ℕ
+log_2 = log_at 2 110 (rec 110 (start 2 ∷ row 2 2 ∷ []) ∷ rec 111 (Commit (one_of 2) ∷ []) ∷ [])
+
+abbrev pub logs_3_and_4 : List (ℕ × List ℕ)
+logs_3_and_4 =
+    log_at 3 120 (rec 120 (start 3 ∷ row 3 3 ∷ []) ∷ rec 121 (Commit (one_of 3) ∷ []) ∷ [])
+    ∷ log_at 4 130 (rec 130 (start 4 ∷ []) ∷ []) ∷ []
+
+abbrev pub log_5 : ℕ × List ℕ
+log_5 = log_at 5 140 (rec 140 (row 4 4 ∷ []) ∷ rec 141 (Commit (one_of 4) ∷ []) ∷ [])
+
+-- the END line of the fold of registered logs, the first of which is log 1
+abbrev pub registered_end : List (ℕ × List ℕ) → List ℕ
+registered_end logs = let redo = redo_from 1 0 logs in last_line (fold_lines (fold_of_redo 1 99 redo.entries redo.stop))
+
+-- ---- a table that is not maintained
+
+abbrev pub audit : TableRow
+audit = record {
+  id = 2;
+  schema = codes "HR";
+  name = codes "AUDIT";
+  columns =
+      record { name = codes "ID"; kind = kinds.Number; nullable = false }
+      ∷ record { name = codes "WHAT"; kind = kinds.Text 40; nullable = true } ∷ [];
+  keys = (0 ∷ []) ∷ [];
+}
+
+abbrev pub audited : List Entry
+audited = map (λ r. (head_of 3, r)) (
+    rec 100 (Table emp ∷ Table audit ∷ DictEnd ∷ [])
+    ∷ rec 101 (
+    start 1
+    ∷ OfChange (record { xid = one_of 1; op = Insert; table = 2; old = []; new = (0, n 1) ∷ (1, Text (codes "p")) ∷ [] })
+    ∷ insert 1 (n 1) (Text (codes "A")) Null ∷ [])
+    ∷ rec 102 (Commit (one_of 1) ∷ [])
+    ∷ [])
+
+-- a row that a user wrote into HR.AUDIT
+abbrev pub audit_row : Tables
+audit_row = record { row = audit; rows = (n 1 ∷ [], n 1 ∷ Text (codes "x") ∷ []) ∷ [] } ∷ []
+
+-- the tables that a query sees behind these records, with the row of the user
+abbrev pub audited_under : List Skip → List (List ℕ)
+audited_under skips =
+    let a = admission (beginning 1 99) (no_history 0) audited in
+    let f = folded (record { tables = known_tables a.standing; n = 0; scn = 99; local = audit_row }) skips a.history.commits (redo_end a Drained) in
+    flat_map table_lines (visible_tables skips f.n audit_row f.tables)
+
+-- ---- the dictionary
+
+-- a table whose widest row has 1,018 bytes and this many
+abbrev pub wide : ℕ → TableRow
+wide size = record {
+  id = 2;
+  schema = codes "T";
+  name = codes "R";
+  columns =
+      record { name = codes "A"; kind = kinds.Text 500; nullable = true }
+      ∷ record { name = codes "B"; kind = kinds.Text 500; nullable = true }
+      ∷ column_of_numbers (codes "ID")
+      ∷ record { name = codes "C"; kind = kinds.Text size; nullable = true } ∷ [];
+  keys = (2 ∷ []) ∷ [];
+}
+
+-- the dictionary ends in a second log
+abbrev pub late_dictionary : List Entry
+late_dictionary =
+    (head_of 1, rec 100 (Table emp ∷ []))
+    ∷ (record { seq = 2; dbid = 9; first = 200; next = 300; count = 1 }, rec 200 (DictEnd ∷ []))
+    ∷ []
+
+-- a table whose unique key has two columns
+abbrev pub paired : TableRow
+paired = record {
+  id = 1;
+  schema = codes "T";
+  name = codes "P";
+  columns = column_of_numbers (codes "ID") ∷ column_of_numbers (codes "A") ∷ column_of_numbers (codes "B") ∷ [];
+  keys = (0 ∷ []) ∷ (1 ∷ 2 ∷ []) ∷ [];
+}
+
+-- the END line of these records behind a dictionary of that table and a commit of its row 1 with the values 1 and 5
+abbrev pub paired_end : List RedoRec → List ℕ
+paired_end records = last_line (fold_lines (fold_of_redo 1 99 (map (λ r. (head_of 9, r)) (
+    rec 100 (Table paired ∷ DictEnd ∷ [])
+    ∷ rec 101 (start 4 ∷ insert_all 4 (n 1 ∷ n 1 ∷ n 5 ∷ []) ∷ [])
+    ∷ rec 102 (Commit (one_of 4) ∷ [])
+    ∷ records)) Drained))
+
+-- the update of row 1 that sets the first column of its unique key, where these are its old cells
+abbrev pub half_moved : List (ℕ × Value) → Vector
+half_moved old = update 1 old ((1, n 2) ∷ [])
+
+abbrev pub half_moved_logged : List (ℕ × Value)
+half_moved_logged = (0, n 1) ∷ (1, n 1) ∷ (2, n 5) ∷ []
+
+-- a table of one raw value of this size
+abbrev pub raw_keyed : ℕ → TableRow
+raw_keyed size = record {
+  id = 2;
+  schema = codes "T";
+  name = codes "X";
+  columns = record { name = codes "A"; kind = kinds.Raw size; nullable = false } ∷ [];
+  keys = (0 ∷ []) ∷ [];
+}
+
+-- a column of this kind that may not be Null
+abbrev pub sure_column : Kind → Column
+sure_column kind = record { name = codes "A"; kind = kind; nullable = false }

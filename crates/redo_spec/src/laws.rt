@@ -1,25 +1,36 @@
 //! Laws of the definitions, each stated by a public function with an empty body.
-ghost use Rattle.std.specs.Prelude.{◌≡◌, ℕ, ◌+◌, ◌-◌, ◌≤◌, ◌<◌, List, get_or, Option, None, Some, false, not, ◌&&◌};
+ghost use Rattle.std.specs.Prelude.{◌≡◌, ℕ, ◌+◌, ◌-◌, ◌≤◌, ◌<◌, List, map, get_or, Option, None, Some, Ok, false, not, ◌&&◌};
 ghost use Rattle.std.specs.List.{list_any, AllByRecursion};
 ghost use Rattle.std.specs.Ordering.{eq_by_cmp};
 ghost use Rattle.rl_value.specs.Order.{key_cmp};
+ghost use Rattle.rl_value.specs.declared.cause.LawFault.{LawFault};
 ghost use Rattle.redo_vec.specs.declared.change.Change.{Change};
-ghost use Rattle.redo_spec.specs.History.{Entry, Committed, Commits, commit_count, no_history, same_xid};
-ghost use Rattle.redo_spec.specs.Standing.{Standing, beginning, open_txns};
+ghost use Rattle.redo_vec.specs.Ranges.{AreBytes};
+ghost use Rattle.redo_spec.specs.History.{Entry, Committed, Commits, commits_after, commit_count, no_history, same_xid, History, history_at};
+ghost use Rattle.redo_spec.specs.Standing.{Standing, beginning, open_txns, standing_at};
 ghost use Rattle.redo_spec.specs.ConflictKeys.{conflict_keys};
 ghost use Rattle.redo_spec.specs.Locks.{held_keys, lock_fault};
-ghost use Rattle.redo_spec.specs.Law.{admission};
+ghost use Rattle.redo_spec.specs.Law.{admission, IsFirstBad};
+ghost use Rattle.redo_spec.specs.Mark.{MarkFits, resumed};
 ghost use Rattle.redo_spec.specs.Skips.{Skip};
-ghost use Rattle.redo_spec.specs.Fold.{Base, tables_at, with_commit, fold_of_redo};
-ghost use Rattle.redo_spec.specs.Log.{Log, IsLog, log_bytes};
-ghost use Rattle.redo_spec.specs.LogHeader.{header_fault};
-ghost use Rattle.redo_spec.specs.Redo.{entries_of, fold_of_log};
+ghost use Rattle.redo_spec.specs.Fold.{Base, tables_at, with_commit, stop_at, folded, fold_of_redo};
+ghost use Rattle.redo_spec.specs.Log.{Log, IsLog, IsSpelled, log_bytes};
+ghost use Rattle.redo_spec.specs.LogHeader.{header_in, header_fault};
+ghost use Rattle.redo_spec.specs.Redo.{entries_of, records_of, fold_of_log};
+ghost use Rattle.rl_value.specs.declared.verdict.Stop.{Stop};
 ghost use Rattle.rl_value.specs.declared.verdict.Stop.TheVariants.{Drained};
+ghost use Rattle.rl_value.specs.declared.verdict.Verdict.TheVariants.{Stopped};
 
 /// The fold of a spelled log, from its bytes, is the fold of its records.
 pub fn spelled_log_is_read()
     ensures { (seq : ℕ) (log : Log) → IsLog log → header_fault seq (log_bytes log) ≡ None →
         fold_of_log seq (Some (log_bytes log)) ≡ fold_of_redo seq (log.head.first - 1) (entries_of log) Drained }
+{}
+
+/// Bytes that are read without a fault are the spelling of the log that is read.
+pub fn read_log_is_spelled()
+    ensures { (seq : ℕ) (bytes : List ℕ) → AreBytes bytes → header_fault seq bytes ≡ None → (records_of bytes).cause ≡ None →
+        IsSpelled (record { head = header_in bytes; records = map (λ e. e.1) (records_of bytes).entries }) bytes }
 {}
 
 /// The standing by which records are judged and the history of their transactions agree: each open transaction stands in
@@ -41,4 +52,46 @@ pub fn one_commit_more()
 pub fn admitted_keys_are_free()
     ensures { (s : Standing) (change : Change) → lock_fault s change ≡ None →
         AllByRecursion (λ h. (not (same_xid h.1 change.xid) && list_any (eq_by_cmp key_cmp h.0) (conflict_keys s.dictionary.tables change)) ≡ false) (held_keys s.active) }
+{}
+
+/// From a fitting mark a run goes on exactly as the whole redo does: it comes as far, and meets the same fault with the same
+/// dictionary left, its commits have the same numbers, and those above the applied count are the same.
+pub fn a_run_from_a_mark_goes_as_far()
+    ensures fault { (first base : ℕ) (entries : List Entry) (q m n : ℕ) → MarkFits first base entries q m n →
+        (resumed first base entries q m).fault ≡ (admission (beginning first base) (no_history 0) entries).fault }
+    ensures left { (first base : ℕ) (entries : List Entry) (q m n : ℕ) → MarkFits first base entries q m n →
+        (resumed first base entries q m).left ≡ (admission (beginning first base) (no_history 0) entries).left }
+    ensures records { (first base : ℕ) (entries : List Entry) (q m n : ℕ) → MarkFits first base entries q m n →
+        (resumed first base entries q m).standing.rec ≡ (admission (beginning first base) (no_history 0) entries).standing.rec }
+    ensures count { (first base : ℕ) (entries : List Entry) (q m n : ℕ) → MarkFits first base entries q m n →
+        commit_count (resumed first base entries q m).history.commits ≡ commit_count (admission (beginning first base) (no_history 0) entries).history.commits }
+    ensures commits { (first base : ℕ) (entries : List Entry) (q m n : ℕ) → MarkFits first base entries q m n →
+        commits_after (resumed first base entries q m).history.commits n
+        ≡ commits_after (admission (beginning first base) (no_history 0) entries).history.commits n }
+{}
+
+/// What is admitted whole is what its records leave.
+pub fn admitted_records_leave_this()
+    ensures standing { (s : Standing) (history : History) (entries : List Entry) → (admission s history entries).fault ≡ None →
+        (admission s history entries).standing ≡ standing_at s entries }
+    ensures history { (s : Standing) (history : History) (entries : List Entry) → (admission s history entries).fault ≡ None →
+        (admission s history entries).history ≡ history_at s.rec entries history }
+{}
+
+/// The first bad record is told: those before it fit, and it does not.
+pub fn the_first_bad_record_is_told()
+    ensures { (s : Standing) (history : History) (entries : List Entry) (found : LawFault) →
+        (admission s history entries).fault ≡ Some found → IsFirstBad s history entries found }
+{}
+
+/// A fold shows the tables of its count, and goes no further exactly before the first commit that may not be applied.
+pub fn a_fold_shows_the_tables_of_its_count()
+    ensures tables { (b : Base) (skips : List Skip) (commits : Commits) (stop : Stop) →
+        tables_at b skips commits (folded b skips commits stop).n ≡ Ok (folded b skips commits stop).tables }
+    ensures before { (b : Base) (skips : List Skip) (commits : Commits) (stop : Stop) (k : ℕ) → b.n ≤ k → k < (folded b skips commits stop).n →
+        stop_at b skips commits (k + 1) ≡ None }
+    ensures there { (b : Base) (skips : List Skip) (commits : Commits) (stop : Stop) → commits.before ≤ b.n → (folded b skips commits stop).n < commit_count commits →
+        stop_at b skips commits ((folded b skips commits stop).n + 1) ≡ Some (folded b skips commits stop).verdict }
+    ensures last { (b : Base) (skips : List Skip) (commits : Commits) (stop : Stop) → commits.before ≤ b.n → b.n ≤ commit_count commits →
+        commit_count commits ≤ (folded b skips commits stop).n → (folded b skips commits stop).verdict ≡ Stopped stop }
 {}

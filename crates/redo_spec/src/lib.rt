@@ -4,5 +4,6 @@
 mod header;
 pub mod laws;
 pub mod worked;
+pub mod worked_bytes;
 
 pub use header::Header;

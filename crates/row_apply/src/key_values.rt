@@ -63,7 +63,7 @@ fn is_null(value: &Value) -> bool
 
 /// One of the values is Null.
 pub fn has_null(values: &[Value]) -> bool
-    ensures { result ≡ list_any is_null values.now }
+    ensures value { result ≡ list_any is_null values.now }
 {
     values.iter().any(|value| is_null(value))
 }
@@ -86,7 +86,7 @@ fn copied_at(alloc: Global, row: &[Value], columns: &[u8]) -> Result<Vec<Value>,
 /// The values in the columns of a key.
 #[tactic(auto, using(crate::proofs::Shapes::key_is_row))]
 pub fn key_row(alloc: Global, row: &Row, columns: &KeyColumns) -> Result<Row, NoMemory>
-    ensures { IfOk result (λ key. key ≡ values_at row.now columns.now) }
+    ensures value { IfOk result (λ key. key ≡ values_at row.now columns.now) }
 {
     let values = copied_at(alloc, row.values(), columns.items())?;
     Ok(Row::of(values))

@@ -20,6 +20,7 @@ mod written;
 
 pub use change_effect::effect;
 pub use fault::EffectFault;
+pub use key_values::{has_null, key_row, unique_keys};
 pub use overlay::Overlay;
 pub use rows::Rows;
 pub use writes::{Write, Writes};

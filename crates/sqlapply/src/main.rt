@@ -9,7 +9,9 @@ mod tests;
 mod unused;
 mod words;
 
+ghost use Rattle.std.specs.Prelude.{◌≡◌};
 ghost use Rattle.std.specs.Process.{exit_status};
+ghost use Rattle.rl_ports.specs.Faults.{Rose};
 ghost use Rattle.standby.specs.Command.{command_of};
 ghost use Rattle.sqlapply.specs.Exit.{EndsWith};
 
@@ -17,13 +19,11 @@ use file_ports::{FileArchive, StdSink, StdSource};
 use rl_base::Status;
 use rl_ports::{Archive, Sink, Source};
 use rl_value::Bytes;
-use standby::sqlapply_still;
+use standby::{Ended, refuse, sqlapply_still};
 use std::alloc::Global;
 use std::process::ExitCode;
 use unused::Unused;
 use words::words_of;
-
-const NO_MEMORY: &[u8] = b"FAULT MEMORY\n";
 
 fn main(rt: HostRuntime) -> ExitCode {
     let Ok(mut out) = StdSink::new(&rt) else {
@@ -34,33 +34,30 @@ fn main(rt: HostRuntime) -> ExitCode {
         StdSource::new(&rt),
         FileArchive::new(&rt),
     ) else {
-        say_no_memory(&mut out);
+        refuse(&mut out, b"FAULT MEMORY\n");
         return ExitCode::from(Status::Memory.code());
     };
-    run(rt.alloc(), &words, &mut input, &mut out, archive)
+    let (code, _) = run(rt.alloc(), &words, &mut input, &mut out, archive);
+    code
 }
 
-// The last line of a program that has no memory to begin with, as far as the output takes it.
-fn say_no_memory<O: Sink>(out: &mut O) {
-    let mut rest = NO_MEMORY;
-    for _ in 0..NO_MEMORY.len() {
-        match out.write(rest) {
-            Ok(count) if count < rest.len() => rest = &rest[count..],
-            _ => return,
-        }
-    }
-}
-
-// Does what the words ask, and gives the exit code of its status.
-fn run<I: Source, O: Sink, A: Archive + Drop>(
+// Does what the words ask, and gives the exit code of its status, and the archive back.
+fn run<I: Source, O: Sink, A: Archive>(
     alloc: Global,
     words: &[Bytes],
     input: &mut I,
     out: &mut O,
     archive: A,
-) -> ExitCode
-    ensures code { EndsWith (command_of words.now) (A.logs archive) (exit_status result) (O.written out.old) (O.written out.new) }
+) -> (ExitCode, A)
+    ensures code { EndsWith (command_of words.now) (A.logs archive) (exit_status result.0) (O.written out.old) (O.written out.new)
+        (Rose (A.faults archive) (A.faults result.1)) (Rose (O.faults out.old) (O.faults out.new)) }
+    ensures input { input.new ≡ input.old }
 {
-    let ended = sqlapply_still(alloc, words, input, out, archive, Unused, Unused);
-    ExitCode::from(ended.status.code())
+    let Ended {
+        status,
+        archive,
+        spill: _,
+        keeper: _,
+    } = sqlapply_still(alloc, words, input, out, archive, Unused, Unused);
+    (ExitCode::from(status.code()), archive)
 }

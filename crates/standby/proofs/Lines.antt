@@ -1,17 +1,17 @@
 -- Words and lines, joined in one step or two.
-use Rattle.std.proofs.Common.{◌≡◌, ℕ, List, [], ◌∷◌, ◌++◌, refl, ap, ◌∙◌, sym, map, append-nil, codes, length}
+use Rattle.std.proofs.Common.{◌≡◌, ℕ, List, [], ◌∷◌, ◌++◌, Bool, true, false, refl, ap, ◌∙◌, sym, map, append-nil, codes, length}
 use Rattle.std.specs.List.{flat_map, join_with_byte}
 use Rattle.std.specs.Fmt.{decimal}
 use Rattle.rl_value.specs.declared.verdict.Verdict.{Verdict}
 use Rattle.redo_vec.specs.declared.table.TableRow.{TableRow}
-use Rattle.redo_spec.specs.Tables.{Rows, RowsById, Table, assembled, definitions_of, rows_by}
+use Rattle.redo_spec.specs.Tables.{Rows, RowsById, Table, assembled, rows_by}
 use Rattle.std.proofs.lemmas.Grind.{flat_map-append}
 use Rattle.std.proofs.lemmas.List.{append_assoc}
 use Rattle.redo_spec.specs.Lines.{words, written, table_lines, fold_lines, end_line, verdict_text}
 use Rattle.rl_value.specs.Literal.{row_text}
 use Rattle.primary.specs.declared.plain.Folded.{Folded as Plainly}
-use Rattle.primary.specs.Starts.{shown}
-use Rattle.standby.specs.Printing.{spaced, end_words, with_end, row_line, rows_text, table_line, table_text, applied_text, end_text}
+use Rattle.primary.specs.Starts.{shown, tables_shown}
+use Rattle.standby.specs.Printing.{spaced, end_words, with_end, row_line, rows_text, table_line, table_text, definitions_shown, applied_text, end_text}
 
 -- a first word, and each later one with a space before it
 pub joined-spaced : (w : List ℕ) (ws : List (List ℕ)) → join_with_byte 32 (w ∷ ws) ≡ w ++ spaced ws
@@ -42,28 +42,27 @@ tables-written by (t ∷ ts) =
     ∙ ap (λ l. l ++ written (flat_map table_lines (assembled ts by))) (ap (λ l. table_line t (length (rows_by by t.id)) ++ l) (rows-written (rows_by by t.id)))
     ∙ ap (λ l. table_text by t ++ l) (tables-written by ts)
 
-pub assembled-definitions : (by : RowsById) (ts : List TableRow) → definitions_of (assembled ts by) ≡ ts
-assembled-definitions by [] = refl
-assembled-definitions by (t ∷ ts) = ap (λ l. t ∷ l) (assembled-definitions by ts)
+shown-written : (whole : Bool) (by : RowsById) (ts : List TableRow) → written (flat_map table_lines (tables_shown whole ts by)) ≡ flat_map (table_text by) (definitions_shown whole ts)
+shown-written true by ts = tables-written by ts
+shown-written false by ts = refl
 
 pub fold-text : (f : Plainly) → written (fold_lines (shown f)) ≡
-    applied_text f.scn ++ (flat_map (table_text f.tables) f.dict.tables ++ end_text f.dict.tables f.scn f.n f.end)
+    applied_text f.scn ++ (flat_map (table_text f.tables) (definitions_shown f.whole f.dict.tables) ++ end_text f.dict.tables f.scn f.n f.end)
 fold-text f =
-    let lines = flat_map table_lines (assembled f.dict.tables f.tables) in
-    let end = end_line (definitions_of (assembled f.dict.tables f.tables)) f.scn f.n f.end in
+    let lines = flat_map table_lines (tables_shown f.whole f.dict.tables f.tables) in
+    let end = end_line f.dict.tables f.scn f.n f.end in
     ap (λ l. applied_text f.scn ++ l) (
     flat_map-append with_end lines (end ∷ [])
-    ∙ ap (λ l. l ++ written (end ∷ [])) (tables-written f.tables f.dict.tables)
-    ∙ ap (λ l. flat_map (table_text f.tables) f.dict.tables ++ l) (append-nil (with_end end)
-    ∙ ap (λ ts. end_text ts f.scn f.n f.end) (assembled-definitions f.tables f.dict.tables)))
+    ∙ ap (λ l. l ++ written (end ∷ [])) (shown-written f.whole f.tables f.dict.tables)
+    ∙ ap (λ l. flat_map (table_text f.tables) (definitions_shown f.whole f.dict.tables) ++ l) (append-nil (with_end end)))
 
 -- what is put piece by piece is the whole text
-pub printed-all : (f : Plainly) (o₀ o₁ o₂ o₃ : List ℕ) (ts : List TableRow) → o₀ ≡ [] → o₁ ≡ o₀ ++ applied_text f.scn → ts ≡ f.dict.tables →
+pub printed-all : (f : Plainly) (o₀ o₁ o₂ o₃ : List ℕ) (ts : List TableRow) → o₀ ≡ [] → o₁ ≡ o₀ ++ applied_text f.scn → ts ≡ definitions_shown f.whole f.dict.tables →
     o₂ ≡ o₁ ++ flat_map (table_text f.tables) ts → o₃ ≡ o₂ ++ end_text f.dict.tables f.scn f.n f.end → o₃ ≡ written (fold_lines (shown f))
 printed-all f o₀ o₁ o₂ o₃ ts none first same second third =
     let a = applied_text f.scn in
     let end = end_text f.dict.tables f.scn f.n f.end in
     third
     ∙ ap (λ o. o ++ end) (second ∙ ap (λ o. o ++ flat_map (table_text f.tables) ts) (first ∙ ap (λ o. o ++ a) none) ∙ ap (λ x. a ++ flat_map (table_text f.tables) x) same)
-    ∙ append_assoc a (flat_map (table_text f.tables) f.dict.tables) end
+    ∙ append_assoc a (flat_map (table_text f.tables) (definitions_shown f.whole f.dict.tables)) end
     ∙ sym (fold-text f)

@@ -38,7 +38,7 @@ stays (Ended f) entries a b over = sym (ended_on f entries b)
 -- ---- one record
 
 on_decoded : (h : Header) (r : Result RedoRec Fault) (rec : ℕ) (later : Redo) (old new : Progress) (took : Took) → TakesIfDecoded h r old new took → Steps (decoded_or h r rec later) later old new (stop_behind (rec + 1) took)
-on_decoded h (Ok r) rec later old new tooks.On takes = record { stop_is = refl; taken = ap (after_records [] later.entries) (sym takes) }
+on_decoded h (Ok r) rec later old new tooks.On takes = record { stop_is = refl; taken = ap (after_records [] later.entries) (sym takes.0) }
 on_decoded h (Ok r) rec later old new tooks.Ended takes = stays new later.entries Drained later.stop takes.1 ∙ ap (λ (p : Progress). end_of later.stop (after_records [] later.entries p)) takes.0
 on_decoded h (Ok r) rec later old new (tooks.Undecoded cause) takes = absurd takes
 on_decoded h (Err f) rec later old new tooks.On takes = absurd takes

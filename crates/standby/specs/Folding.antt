@@ -1,5 +1,5 @@
 -- The records of a redo handed to the evaluator one by one, and what then ends it.
-use Rattle.std.specs.Prelude.{ℕ, ◌≡◌, List, [], false, Option, Some, None, Result, Ok, Err}
+use Rattle.std.specs.Prelude.{ℕ, ◌≡◌, List, [], true, false, Option, Some, None, Result, Ok, Err}
 use Rattle.rl_value.specs.declared.cause.Cause.TheVariants.{Head, Vector}
 use Rattle.rl_value.specs.declared.cause.HeadFault.TheVariants.{Dbid}
 use Rattle.rl_value.specs.declared.verdict.Stop.{Stop}
@@ -27,9 +27,9 @@ use Rattle.standby.specs.declared.reading.FoldFault.TheVariants as faults
 abbrev pub come : ℕ → ℕ → List Entry → Progress
 come first base entries = after (first_start first base) [] entries
 
--- a record that decodes goes to the evaluator, and of another the evaluator sees nothing
+-- a record that decodes goes to the evaluator, which then goes on or has ended; of another the evaluator sees nothing
 abbrev pub TakesIfDecoded : Header → Result RedoRec Fault → Progress → Progress → Took → Type 0
-TakesIfDecoded h (Ok r) old new tooks.On = new ≡ after_record [] (h, r) old
+TakesIfDecoded h (Ok r) old new tooks.On = (new ≡ after_record [] (h, r) old) × (is_going new ≡ true)
 TakesIfDecoded h (Ok r) old new tooks.Ended = (new ≡ after_record [] (h, r) old) × (is_going new ≡ false)
 TakesIfDecoded h (Ok r) old new (tooks.Undecoded cause) = ⊥
 TakesIfDecoded h (Err f) old new tooks.On = ⊥

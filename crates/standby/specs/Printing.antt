@@ -1,6 +1,6 @@
 -- The printed text of a fold as the program puts it together: words behind spaces, and lines with their LF.
 -- What is printed is that of the definitions (`Lines` of redo_spec), joined otherwise.
-use Rattle.std.specs.Prelude.{ℕ, List, [], ◌∷◌, ◌++◌, length, codes}
+use Rattle.std.specs.Prelude.{ℕ, List, [], ◌∷◌, ◌++◌, length, Bool, if◌then◌else◌, codes}
 use Rattle.std.specs.List.{flat_map}
 use Rattle.std.specs.Fmt.{decimal}
 use Rattle.rl_value.specs.declared.value.Value.{Value}
@@ -34,6 +34,10 @@ rows_text rows = flat_map (λ r. row_line r.1) rows
 -- a table with its rows
 abbrev pub table_text : RowsById → TableRow → List ℕ
 table_text by t = table_line t (length (rows_by by t.id)) ++ rows_text (rows_by by t.id)
+
+-- the tables of the dictionary that are shown: none where it was not whole
+abbrev pub definitions_shown : Bool → List TableRow → List TableRow
+definitions_shown whole tables = if whole then tables else []
 
 -- the words of the END line, joined word by word
 abbrev pub end_words : List TableRow → ℕ → ℕ → Verdict → List ℕ

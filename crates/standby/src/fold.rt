@@ -1,10 +1,10 @@
 //! The command `fold SEQ`: folds one log over empty tables, and prints what comes out.
 //!
 //! The whole text is built before its first byte is written. So a fold that is refused has written its last line alone.
-ghost use Rattle.std.specs.Prelude.{◌≡◌, ◌≤◌, ◌≢◌, IfOk, Err};
+ghost use Rattle.std.specs.Prelude.{◌≡◌, ◌≤◌, ◌≢◌, ◌↔◌, IfOk, Err};
 ghost use Rattle.rl_ports.specs.Faults.{Rose, Told};
 ghost use Rattle.standby.specs.Printout.{IsPrintoutOf, IsWritten, IsPrefixWritten};
-ghost use Rattle.standby.specs.declared.reading.FoldFault.TheVariants.{Failed as FoldFailed};
+ghost use Rattle.standby.specs.declared.reading.FoldFault.TheVariants.{Failed as FoldFailed, Memory as FoldMemory};
 ghost use Rattle.standby.specs.Answers.{Comes, IsEnd, Prints, PrintsPrefix, SaysFault, fault_word, end_status};
 
 use crate::finished::Finished;
@@ -47,7 +47,7 @@ struct Printout {
 
 fn printed(alloc: Global, folded: &Result<Folded, FoldFault>) -> Result<Printout, FoldFault>
     ensures printout { IfOk result (IsPrintoutOf folded.now) }
-    ensures failed { result ≡ Err FoldFailed → folded.now ≡ Err FoldFailed }
+    ensures failed { (result ≡ Err FoldFailed) ↔ (folded.now ≡ Err FoldFailed) }
 {
     match folded {
         Err(fault) => Err(*fault),
@@ -68,7 +68,8 @@ fn answer<O: Sink>(out: &mut O, printout: Result<Printout, FoldFault>) -> Status
     ensures ends { IsEnd result → IsWritten printout result (O.written out.old) (O.written out.new) }
     ensures usage { result ≢ Status.Usage }
     ensures not_built { result ≢ Status.NotBuilt }
-    ensures archive_fault { result ≡ Status.ArchiveFault → printout ≡ Err FoldFailed }
+    ensures archive_fault { (result ≡ Status.ArchiveFault) ↔ (printout ≡ Err FoldFailed) }
+    ensures memory { (result ≡ Status.Memory) ↔ (printout ≡ Err FoldMemory) }
     ensures sink_rose { result ≡ Status.SinkFault → Rose (O.faults out.old) (O.faults out.new) }
     ensures sink_fault { result ≡ Status.SinkFault → IsPrefixWritten printout (O.written out.old) (O.written out.new) }
     ensures last_line { SaysFault (fault_word result) (O.written out.old) (O.written out.new)

@@ -20,4 +20,5 @@ mod verdict_words;
 mod words;
 
 pub use ended::Ended;
+pub use say::refuse;
 pub use still::sqlapply_still;

@@ -5,7 +5,7 @@ ghost use Rattle.std.specs.List.{flat_map};
 ghost use Rattle.redo_spec.specs.Lines.{written, fold_lines};
 ghost use Rattle.redo_spec.specs.Tables.{rows_by};
 ghost use Rattle.primary.specs.Starts.{shown};
-ghost use Rattle.standby.specs.Printing.{applied_text, row_line, table_line, rows_text, table_text, end_words, end_text};
+ghost use Rattle.standby.specs.Printing.{applied_text, row_line, table_line, rows_text, table_text, definitions_shown, end_words, end_text};
 
 use crate::output::{push_bytes, push_decimal, push_number, push_word};
 use crate::verdict_words::{push_full_name, push_verdict};
@@ -89,6 +89,17 @@ fn push_tables(
     Ok(())
 }
 
+// The tables that are shown. Where the dictionary was not whole it names tables on the END line alone.
+fn shown_tables(folded: &Folded) -> &[TableRow]
+    ensures { result.now ≡ definitions_shown folded.now.whole folded.now.dict.tables }
+{
+    if folded.whole {
+        folded.dict.tables()
+    } else {
+        &[]
+    }
+}
+
 // The words of the END line.
 fn push_end_words(alloc: Global, out: &mut Vec<u8>, folded: &Folded) -> Result<(), NoMemory>
     ensures { OnOk result (out.new.items ≡ out.old.items ++ end_words folded.now.dict.tables folded.now.scn folded.now.n folded.now.end) }
@@ -112,7 +123,7 @@ pub fn text_of(alloc: Global, folded: &Folded) -> Result<Vec<u8>, NoMemory>
 {
     let mut out = Vec::new(alloc);
     push_applied(alloc, &mut out, folded.scn)?;
-    push_tables(alloc, &mut out, &folded.tables, folded.dict.tables())?;
+    push_tables(alloc, &mut out, &folded.tables, shown_tables(folded))?;
     push_end(alloc, &mut out, folded)?;
     Ok(out)
 }

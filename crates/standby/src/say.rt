@@ -28,7 +28,8 @@ pub fn say<O: Sink>(out: &mut O, text: &[u8]) -> Result<(), Failed>
     Ok(())
 }
 
-/// Writes the last line of a command that ends at once. Where the sink refuses it, that is all the same.
+/// Writes the last line of a command that ends at once, or of a program that can't begin. Where the sink refuses it, that is
+/// all the same.
 pub fn refuse<O: Sink>(out: &mut O, line: &[u8])
     ensures prefix { AppendsPrefix (O.written out.old) (O.written out.new) line.now
         (Rose (O.faults out.old) (O.faults out.new)) }

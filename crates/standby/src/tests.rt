@@ -46,6 +46,17 @@ const LOCKED: [u8; 203] = [
     0, 0, 0, 0, 0, 1, 1, 0, 2, 0,
 ];
 
+/// HR.EMP: the record that ends the dictionary has two transactions besides, which insert a row of the same key.
+const LOCKED_AT_ONCE: [u8; 175] = [
+    0x53, 0x52, 0x4c, 0x31, 0, 1, 0, 1, 0, 0, 0, 9, 0, 0, 0, 1, 0, 0, 0, 0, 0, 0, 0, 0x64, 0, 0, 0,
+    0, 0, 0, 0, 0xc8, 0, 0, 0, 1, 0, 0, 0, 0, 0, 0, 0, 0x87, 0, 0, 0, 0, 0, 0, 0, 0x64, 0, 6, 8, 0,
+    0, 0, 1, 2, 0x48, 0x52, 3, 0x45, 0x4d, 0x50, 3, 2, 0x49, 0x44, 1, 0, 0, 0, 4, 0x4e, 0x41, 0x4d,
+    0x45, 2, 0, 0x1e, 1, 5, 0x45, 0x4d, 0x41, 0x49, 0x4c, 2, 0, 0x1e, 1, 1, 0, 1, 1, 2, 9, 1, 0, 1,
+    0, 1, 0, 0, 0, 1, 2, 0, 1, 0, 1, 0, 0, 0, 1, 0, 0, 0, 1, 0, 3, 0, 1, 0, 0, 0, 0, 0, 0, 0, 1, 1,
+    0, 2, 0, 1, 0, 2, 0, 1, 0, 0, 0, 1, 2, 0, 2, 0, 1, 0, 0, 0, 1, 0, 0, 0, 1, 0, 3, 0, 1, 0, 0, 0,
+    0, 0, 0, 0, 1, 1, 0, 2, 0,
+];
+
 /// HR.EMP: a transaction updates a row that is not there, and commits.
 const ABSENT: [u8; 191] = [
     0x53, 0x52, 0x4c, 0x31, 0, 1, 0, 1, 0, 0, 0, 9, 0, 0, 0, 1, 0, 0, 0, 0, 0, 0, 0, 0x64, 0, 0, 0,
@@ -314,6 +325,13 @@ fn each_end_of_a_fold_has_its_status_and_its_lines(rt: HostRuntime) -> Result<()
             Held::Other(&LOCKED),
             9,
             "APPLIED_SCN 99\nTABLE HR.EMP 0\nEND 99 0 MALFORMED 3 LOCK HR.EMP 0 (1) 1.1.1\n",
+        ),
+        // No table is shown, and still the lock's is named.
+        with_room(
+            &["fold", "1"],
+            Held::Other(&LOCKED_AT_ONCE),
+            9,
+            "APPLIED_SCN 99\nEND 99 0 MALFORMED 1 LOCK HR.EMP 0 (1) 1.1.1\n",
         ),
         with_room(
             &["fold", "1"],

@@ -1,9 +1,12 @@
 use Rattle.std.proofs.Common.{◌≡◌, ◌∙◌, ◌+◌, ◌≤◌, sym, ap, subst, Option, None}
 use Rattle.rl_value.specs.declared.verdict.Verdict.{Verdict}
 use Rattle.primary.specs.Progress.{Progress, Going, after_record, recs_of}
+use Rattle.redo_spec.specs.Tables.{RowsById}
+use Rattle.row_apply.specs.Soundness.{AreSound}
+use Rattle.primary.specs.Starts.{tables_shown}
 use Rattle.primary.specs.Running.{ahead_of, progress_of}
 use Rattle.primary.proofs.MapLemmas.{absent}
-use Rattle.primary.proofs.StepLaws.{recs_after}
+use Rattle.primary.proofs.StepLaws.{recs_after, sound_without}
 use Rattle.primary.proofs.evaluator.Evaluator.take.Goals as goal
 
 pub returns-in-Ok-None-clause-records : goal.returns-in-Ok-None-clause-records
@@ -18,3 +21,8 @@ returns-in-Ok-None-clause-records c =
     ap (λ (o : Option Verdict). progress_of o c.step.new.self) none ∙ step ∙ ap (λ p. after_record c.args.skips.now (c.args.head.now, c.args.rec) p) old in
     let P : Progress → Type 0 = λ p. recs_of p ≤ recs_of c.args.self.now + 1 in
     subst P (sym whole) (recs_after c.args.skips.now c.args.head.now c.args.rec c.args.self.now)
+
+pub invariant_of-self-in-Err : goal.invariant_of-self-in-Err
+invariant_of-self-in-Err c =
+    let run = c.step.new.self in
+    (λ none. absurd (cc), subst (λ (rows : RowsById). AreSound (tables_shown run.whole run.law.dictionary.tables rows)) (sym c.new.ensures) (sound_without run.whole run.law.dictionary.tables))

@@ -5,7 +5,7 @@ use Rattle.redo_vec.specs.declared.vector.Vector.{Vector}
 use Rattle.primary.specs.Progress.{Going, with_commit, live_after}
 use Rattle.primary.specs.Running.{ahead_of, progress_of}
 use Rattle.primary.specs.declared.running.Running.{Running}
-use Rattle.primary.proofs.StepLaws.{Steps, bad_ends, fault_told, left_told, steps_begin, steps_more, may_commit}
+use Rattle.primary.proofs.StepLaws.{Steps, bad_ends, bad_sound, fault_told, left_told, steps_begin, steps_more, may_commit}
 use Rattle.primary.proofs.running.Running.step.Goals as goal
 
 pub returns-in-Err-Law-clause-taken : goal.returns-in-Err-Law-clause-taken
@@ -15,6 +15,13 @@ returns-in-Err-Law-clause-taken c =
     (fault_told _ c.in-Err-Law.field-0 c.in-Err-Law.fault c.in-Err-Law.field-0-is c.in-Err-Law.ensures.exact)
     (left_told _ _ c.in-Err-Law.field-0 c.in-Err-Law.fault c.in-Err-Law.field-0-is c.in-Err-Law.ensures.left)
     refl refl refl refl
+
+pub returns-in-Err-Law-clause-sound : goal.returns-in-Err-Law-clause-sound
+returns-in-Err-Law-clause-sound c =
+    let old = c.args.self.now in
+    bad_sound c.args.head.now c.args.rec old (record old { law = c.admit.new.self }) c.requires.running
+    (left_told _ _ c.in-Err-Law.field-0 c.in-Err-Law.fault c.in-Err-Law.field-0-is c.in-Err-Law.ensures.left)
+    refl refl
 
 pub loop-vector-init : goal.loop-vector-init
 loop-vector-init c =

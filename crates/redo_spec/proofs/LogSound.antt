@@ -1,0 +1,261 @@
+-- Bytes that are read without a fault are the spelling of what is read: a header, its records, and nothing else.
+use Rattle.std.proofs.Common.{◌≡◌, ℕ, zero, suc, ◌+◌, ◌-◌, ◌≤◌, ◌<◌, ◌||◌, ◌==◌, nat_lt, nat_le, not, codes, Bool, true, false, cond, List, [], ◌∷◌, ◌++◌, length, take, drop, map, get_or, Result, Ok, Err, Option, Some, None, refl, sym, ap, subst, ◌∙◌, arith, inl, inr}
+use Rattle.std.specs.Int.{w16, w32, w64, from_be_bytes}
+use Rattle.std.specs.List.{flat_map, AllByRecursion}
+use Rattle.std.specs.Cmp.Lexicographic.{same_text}
+use Rattle.std.proofs.lemmas.Bool.{cases_lt, ltb-false, eqb-true, not-false, or_parts}
+use Rattle.std.proofs.lemmas.List.{length-take, length-drop, get_or-take, get_or-drop, get_or_past, take-take, drop-take, take-append-drop}
+use Rattle.rl_value.specs.declared.cause.CutFault.{CutFault}
+use Rattle.rl_value.specs.declared.cause.HeadFault.{HeadFault}
+use Rattle.rl_value.specs.declared.cause.HeadFault.TheVariants as heads
+use Rattle.rl_value.specs.Order.{same_bytes}
+use Rattle.rl_value.specs.Outcome.{refused_by}
+use Rattle.redo_vec.specs.declared.redo_rec.RedoRec.{RedoRec}
+use Rattle.redo_vec.specs.Spelling.{be16, be32, be64, record_bytes}
+use Rattle.redo_vec.specs.Ranges.{AreBytes, IsRecord}
+use Rattle.redo_vec.specs.Cutting.{number_in, first_record}
+use Rattle.redo_vec.specs.Reading.{Fault, record_at}
+use Rattle.redo_vec.proofs.Takes.{IsBytes, wide16, wide32, wide64}
+use Rattle.redo_vec.proofs.RecordLaws.{IsCut, record_sound}
+use Rattle.redo_spec.specs.declared.header.Header.{Header}
+use Rattle.redo_spec.specs.History.{Entry}
+use Rattle.redo_spec.specs.Log.{IsHeader, IsSpelled, header_bytes}
+use Rattle.redo_spec.specs.LogHeader.{header_in, header_fault}
+use Rattle.redo_spec.specs.Redo.{cut_or, decoded_or, records_in, records_of}
+
+-- ---- bytes
+
+bytes_fit : (bytes : List ℕ) → AreBytes bytes → (i : ℕ) → get_or bytes i 0 < 256
+bytes_fit [] a i = omega arith
+bytes_fit (b ∷ bytes) a zero = a.0
+bytes_fit (b ∷ bytes) a (suc i) = bytes_fit bytes a.1 i
+
+drop_fits : (n : ℕ) (bytes : List ℕ) → IsBytes bytes → IsBytes (drop n bytes)
+drop_fits n bytes fits i = rw get_or-drop (fits (n + i))
+
+take_fits : (n : ℕ) (bytes : List ℕ) → IsBytes bytes → IsBytes (take n bytes)
+take_fits n bytes fits i =
+    elim (cases_lt i n) [
+      | inl low ↦ rw (get_or-take n bytes i 0 low) (fits i)
+      | inr high ↦ rw (get_or_past (take n bytes) i 0 (omega (arith, length-take n bytes))) (omega arith)
+    ]
+
+front2 : (bytes : List ℕ) → from_be_bytes w16 (take 2 bytes) ≡ from_be_bytes w16 bytes
+front2 [] = refl
+front2 (a ∷ []) = refl
+front2 (a ∷ b ∷ bytes) = refl
+
+front4 : (bytes : List ℕ) → from_be_bytes w32 (take 4 bytes) ≡ from_be_bytes w32 bytes
+front4 [] = refl
+front4 (a ∷ []) = refl
+front4 (a ∷ b ∷ []) = refl
+front4 (a ∷ b ∷ c ∷ []) = refl
+front4 (a ∷ b ∷ c ∷ d ∷ bytes) = refl
+
+front8 : (bytes : List ℕ) → from_be_bytes w64 (take 8 bytes) ≡ from_be_bytes w64 bytes
+front8 [] = refl
+front8 (a ∷ []) = refl
+front8 (a ∷ b ∷ []) = refl
+front8 (a ∷ b ∷ c ∷ []) = refl
+front8 (a ∷ b ∷ c ∷ d ∷ []) = refl
+front8 (a ∷ b ∷ c ∷ d ∷ e ∷ []) = refl
+front8 (a ∷ b ∷ c ∷ d ∷ e ∷ f ∷ []) = refl
+front8 (a ∷ b ∷ c ∷ d ∷ e ∷ f ∷ g ∷ []) = refl
+front8 (a ∷ b ∷ c ∷ d ∷ e ∷ f ∷ g ∷ h ∷ bytes) = refl
+
+-- a number that is read is spelled by the bytes that it is read from
+spelled2 : (at : ℕ) (bytes : List ℕ) → IsBytes bytes → at + 2 ≤ length bytes → take 2 (drop at bytes) ≡ be16 (number_in w16 at bytes)
+spelled2 at bytes fits long =
+    sym (wide16.back (take 2 (drop at bytes)) (omega (arith, long, length-take 2 (drop at bytes), length-drop at bytes)) (take_fits 2 (drop at bytes) (drop_fits at bytes fits)))
+    ∙ ap be16 (front2 (drop at bytes))
+
+spelled4 : (at : ℕ) (bytes : List ℕ) → IsBytes bytes → at + 4 ≤ length bytes → take 4 (drop at bytes) ≡ be32 (number_in w32 at bytes)
+spelled4 at bytes fits long =
+    sym (wide32.back (take 4 (drop at bytes)) (omega (arith, long, length-take 4 (drop at bytes), length-drop at bytes)) (take_fits 4 (drop at bytes) (drop_fits at bytes fits)))
+    ∙ ap be32 (front4 (drop at bytes))
+
+spelled8 : (at : ℕ) (bytes : List ℕ) → IsBytes bytes → at + 8 ≤ length bytes → take 8 (drop at bytes) ≡ be64 (number_in w64 at bytes)
+spelled8 at bytes fits long =
+    sym (wide64.back (take 8 (drop at bytes)) (omega (arith, long, length-take 8 (drop at bytes), length-drop at bytes)) (take_fits 8 (drop at bytes) (drop_fits at bytes fits)))
+    ∙ ap be64 (front8 (drop at bytes))
+
+-- ---- the header
+
+-- bytes that are spelled, and the next ones
+joined : (a b : ℕ) (bytes front next : List ℕ) → take a bytes ≡ front → take b (drop a bytes) ≡ next → take (a + b) bytes ≡ front ++ next
+joined a b bytes front next p q =
+    let low : a ≤ a + b = omega arith in
+    let first : take a (take (a + b) bytes) ≡ front = take-take a (a + b) bytes low ∙ p in
+    let second : drop a (take (a + b) bytes) ≡ next = drop-take a b bytes ∙ q in
+    sym (take-append-drop a (take (a + b) bytes)) ∙ (λ i. first i ++ second i)
+
+passed : (test : Bool) (fault : HeadFault) (o : Option HeadFault) → cond test (Some fault) o ≡ None → (test ≡ false) × (o ≡ None)
+passed false fault o e = (refl, e)
+passed true fault o e = absurd (cc)
+
+-- what the tests of a header tell
+record Passed (bytes : List ℕ) : Type 0 where
+  long : 40 ≤ length bytes
+  magic : take 4 bytes ≡ codes "SRL1"
+  version : number_in w16 4 bytes ≡ 1
+  thread : number_in w16 6 bytes ≡ 1
+  reserved : number_in w32 36 bytes ≡ 0
+
+header_passed : (seq : ℕ) (bytes : List ℕ) → header_fault seq bytes ≡ None → Passed bytes
+header_passed seq bytes e =
+    let short = passed (nat_lt (length bytes) 40) heads.Short _ e in
+    let magic = passed (not (same_bytes (take 4 bytes) (codes "SRL1"))) heads.Magic _ short.1 in
+    let version = passed (not (number_in w16 4 bytes == 1)) heads.Version _ magic.1 in
+    let thread = passed (not (number_in w16 6 bytes == 1)) heads.Thread _ version.1 in
+    let sequence = passed (not (number_in w32 12 bytes == seq)) heads.Sequence _ thread.1 in
+    let range = passed (number_in w64 16 bytes == 0 || nat_le (number_in w64 24 bytes) (number_in w64 16 bytes)) heads.Range _ sequence.1 in
+    let count = passed (number_in w32 32 bytes == 0) heads.Records _ range.1 in
+    let reserved = passed (not (number_in w32 36 bytes == 0)) heads.Reserved _ count.1 in
+    record {
+      long = ltb-false (length bytes) 40 short.0;
+      magic = same_text (take 4 bytes) (codes "SRL1") (sym (not-false (same_bytes (take 4 bytes) (codes "SRL1")) magic.0));
+      version = eqb-true (number_in w16 4 bytes) 1 (not-false (number_in w16 4 bytes == 1) version.0);
+      thread = eqb-true (number_in w16 6 bytes) 1 (not-false (number_in w16 6 bytes == 1) thread.0);
+      reserved = eqb-true (number_in w32 36 bytes) 0 (not-false (number_in w32 36 bytes == 0) reserved.0);
+    }
+
+header_spelled : (bytes : List ℕ) → IsBytes bytes → Passed bytes → take 40 bytes ≡ header_bytes (header_in bytes)
+header_spelled bytes fits p =
+    let long = p.long in
+    let h = header_in bytes in
+    let to6 = joined 4 2 bytes (codes "SRL1") (be16 1) p.magic (spelled2 4 bytes fits (omega (arith, long)) ∙ ap be16 p.version) in
+    let to8 = joined 6 2 bytes (codes "SRL1" ++ be16 1) (be16 1) to6 (spelled2 6 bytes fits (omega (arith, long)) ∙ ap be16 p.thread) in
+    let to12 = joined 8 4 bytes (codes "SRL1" ++ be16 1 ++ be16 1) (be32 h.dbid) to8 (spelled4 8 bytes fits (omega (arith, long))) in
+    let to16 = joined 12 4 bytes (codes "SRL1" ++ be16 1 ++ be16 1 ++ be32 h.dbid) (be32 h.seq) to12 (spelled4 12 bytes fits (omega (arith, long))) in
+    let to24 = joined 16 8 bytes (codes "SRL1" ++ be16 1 ++ be16 1 ++ be32 h.dbid ++ be32 h.seq) (be64 h.first) to16 (spelled8 16 bytes fits (omega (arith, long))) in
+    let to32 =
+    joined 24 8 bytes (codes "SRL1" ++ be16 1 ++ be16 1 ++ be32 h.dbid ++ be32 h.seq ++ be64 h.first) (be64 h.next) to24 (spelled8 24 bytes fits (omega (arith, long))) in
+    let to36 =
+    joined 32 4 bytes (codes "SRL1" ++ be16 1 ++ be16 1 ++ be32 h.dbid ++ be32 h.seq ++ be64 h.first ++ be64 h.next) (be32 h.count) to32
+    (spelled4 32 bytes fits (omega (arith, long))) in
+    joined 36 4 bytes (codes "SRL1" ++ be16 1 ++ be16 1 ++ be32 h.dbid ++ be32 h.seq ++ be64 h.first ++ be64 h.next ++ be32 h.count) (be32 0) to36
+    (spelled4 36 bytes fits (omega (arith, long)) ∙ ap be32 p.reserved)
+
+header_fits : (bytes : List ℕ) → IsBytes bytes → IsHeader (header_in bytes)
+header_fits bytes fits = record {
+  seq = wide32.below (drop 12 bytes) (drop_fits 12 bytes fits);
+  dbid = wide32.below (drop 8 bytes) (drop_fits 8 bytes fits);
+  first = wide64.below (drop 16 bytes) (drop_fits 16 bytes fits);
+  next = wide64.below (drop 24 bytes) (drop_fits 24 bytes fits);
+  count = wide32.below (drop 32 bytes) (drop_fits 32 bytes fits);
+}
+
+-- ---- one record at the front
+
+took : {A : Type 0} (test : Bool) (fault : CutFault) (o : Option CutFault) (x y : A) → refused_by (cond test (Some fault) o) x ≡ Ok y → (test ≡ false) × (refused_by o x ≡ Ok y)
+took false fault o x y e = (refl, e)
+took true fault o x y e = absurd (cc)
+
+took_all : {A : Type 0} (x y : A) → refused_by {E = CutFault} None x ≡ Ok y → x ≡ y
+took_all x y e = cc
+
+some_count : (k : ℕ) → (k == 0) ≡ false → 1 ≤ k
+some_count zero e = absurd (cc)
+some_count (suc k) e = omega arith
+
+cut_fits : (bytes : List ℕ) (size : ℕ) → 15 ≤ size → size ≤ 65536 → size ≤ length bytes → number_in w32 0 bytes ≡ size → 1 ≤ number_in w16 12 bytes → number_in w16 12 bytes ≤ 255 →
+    IsCut (take size bytes)
+cut_fits bytes size low high long is some few =
+    let count : length (take size bytes) ≡ size = omega (arith, long, length-take size bytes) in
+    let number : number_in w32 0 (take size bytes) ≡ size =
+    sym (front4 (take size bytes)) ∙ ap (from_be_bytes w32) (take-take 4 size bytes (omega (arith, low))) ∙ front4 bytes ∙ is in
+    let rest : 12 + (size - 12) ≡ size = omega (arith, low) in
+    let behind : drop 12 (take size bytes) ≡ take (size - 12) (drop 12 bytes) = ap (λ k. drop 12 (take k bytes)) (sym rest) ∙ drop-take 12 (size - 12) bytes in
+    let vectors : number_in w16 12 (take size bytes) ≡ number_in w16 12 bytes =
+    ap (from_be_bytes w16) behind
+    ∙ sym (front2 (take (size - 12) (drop 12 bytes)))
+    ∙ ap (from_be_bytes w16) (take-take 2 (size - 12) (drop 12 bytes) (omega (arith, low)))
+    ∙ front2 (drop 12 bytes) in
+    record {
+      least = omega (arith, low, count);
+      most = omega (arith, high, count);
+      size = number ∙ sym count;
+      some = omega (arith, some, vectors);
+      few = omega (arith, few, vectors);
+    }
+
+-- a record that is cut off, and what is left
+record IsFront (bytes cut rest : List ℕ) : Type 0 where
+  cut_fits : IsCut cut
+  parts : bytes ≡ cut ++ rest
+  bytes_fit : IsBytes cut
+  rest_fits : IsBytes rest
+
+front_is : (bytes cut rest : List ℕ) → IsBytes bytes → first_record bytes ≡ Ok (cut, rest) → IsFront bytes cut rest
+front_is bytes cut rest fits e =
+    let size = number_in w32 0 bytes in
+    let pair : List ℕ × List ℕ = (take size bytes, drop size bytes) in
+    let a = took (nat_lt (length bytes) 4) _ _ pair (cut, rest) e in
+    let b = took (nat_lt size 15 || nat_lt 65536 size) _ _ pair (cut, rest) a.1 in
+    let c = took (nat_lt (length bytes) size) _ _ pair (cut, rest) b.1 in
+    let d = took (number_in w16 12 bytes == 0 || nat_lt 255 (number_in w16 12 bytes)) _ _ pair (cut, rest) c.1 in
+    let whole = took_all pair (cut, rest) d.1 in
+    let cut_is : take size bytes ≡ cut = ap (λ (p : List ℕ × List ℕ). p.0) whole in
+    let rest_is : drop size bytes ≡ rest = ap (λ (p : List ℕ × List ℕ). p.1) whole in
+    let limits = or_parts (nat_lt size 15) (nat_lt 65536 size) b.0 in
+    let counts = or_parts (number_in w16 12 bytes == 0) (nat_lt 255 (number_in w16 12 bytes)) d.0 in
+    record {
+      cut_fits = subst IsCut cut_is
+          (cut_fits bytes size (ltb-false size 15 limits.0) (ltb-false 65536 size limits.1) (ltb-false (length bytes) size c.0) refl
+          (some_count (number_in w16 12 bytes) counts.0) (ltb-false 255 (number_in w16 12 bytes) counts.1));
+      parts = sym (take-append-drop size bytes) ∙ (λ i. cut_is i ++ rest_is i);
+      bytes_fit = subst IsBytes cut_is (take_fits size bytes fits);
+      rest_fits = subst IsBytes rest_is (drop_fits size bytes fits);
+    }
+
+-- ---- the records of a log
+
+record AreSpelled (count : ℕ) (bytes : List ℕ) (entries : List Entry) : Type 0 where
+  each : AllByRecursion IsRecord (map (λ e. e.1) entries)
+  parts : bytes ≡ flat_map record_bytes (map (λ e. e.1) entries)
+  counted : count ≡ length entries
+
+decoded_sound : (h : Header) (count : ℕ) (bytes cut rest : List ℕ) (found : Result RedoRec Fault) → record_at cut ≡ found → IsFront bytes cut rest →
+    (decoded_or h found (records_in h count rest)).cause ≡ None →
+    ((records_in h count rest).cause ≡ None → AreSpelled count rest (records_in h count rest).entries) → AreSpelled (suc count) bytes (decoded_or h found (records_in h count rest)).entries
+decoded_sound h count bytes cut rest (Err fault) is front e more = absurd (cc)
+decoded_sound h count bytes cut rest (Ok r) is front e more =
+    let here = record_sound cut r front.bytes_fit front.cut_fits is in
+    let spelled = here.1 in
+    let later = more e in
+    let after = later.parts in
+    record { each = (here.0, later.each); parts = front.parts ∙ (λ i. spelled i ++ after i); counted = ap suc later.counted }
+
+cut_sound : (h : Header) (count : ℕ) (bytes : List ℕ) (found : Result (List ℕ × List ℕ) CutFault) → first_record bytes ≡ found → IsBytes bytes →
+    (cut_or found (λ cut rest. decoded_or h (record_at cut) (records_in h count rest))).cause ≡ None →
+    ((rest : List ℕ) → IsBytes rest → (records_in h count rest).cause ≡ None → AreSpelled count rest (records_in h count rest).entries) →
+    AreSpelled (suc count) bytes (cut_or found (λ cut rest. decoded_or h (record_at cut) (records_in h count rest))).entries
+cut_sound h count bytes (Err fault) is fits e more = absurd (cc)
+cut_sound h count bytes (Ok (cut, rest)) is fits e more =
+    let front = front_is bytes cut rest fits is in
+    decoded_sound h count bytes cut rest (record_at cut) refl front e (λ later. more rest front.rest_fits later)
+
+records_sound : (h : Header) (count : ℕ) (bytes : List ℕ) → IsBytes bytes → (records_in h count bytes).cause ≡ None → AreSpelled count bytes (records_in h count bytes).entries
+records_sound h zero [] fits e = record { each = tt; parts = refl; counted = refl }
+records_sound h zero (b ∷ bytes) fits e = absurd (cc)
+records_sound h (suc count) bytes fits e = cut_sound h count bytes (first_record bytes) refl fits e (λ rest ok later. records_sound h count rest ok later)
+
+-- ---- the log
+
+map_length : (entries : List Entry) → length (map (λ e. e.1) entries) ≡ length entries
+map_length [] = refl
+map_length (e ∷ entries) = ap suc (map_length entries)
+
+-- Bytes that are read without a fault are the spelling of the log that is read.
+pub read_is_spelled : (seq : ℕ) (bytes : List ℕ) → AreBytes bytes → header_fault seq bytes ≡ None → (records_of bytes).cause ≡ None →
+    IsSpelled (record { head = header_in bytes; records = map (λ e. e.1) (records_of bytes).entries }) bytes
+read_is_spelled seq bytes are head e =
+    let fits = bytes_fit bytes are in
+    let h = header_in bytes in
+    let front = header_spelled bytes fits (header_passed seq bytes head) in
+    let found = records_sound h h.count (drop 40 bytes) (drop_fits 40 bytes fits) e in
+    let back = found.parts in
+    record {
+      log = record { head = header_fits bytes fits; each = found.each; counted = found.counted ∙ sym (map_length (records_of bytes).entries) };
+      spelled = sym (take-append-drop 40 bytes) ∙ (λ i. front i ++ back i);
+    }

@@ -1,0 +1,5 @@
+use Rattle.redo_spec.proofs.AdmissionLaws.{first_bad}
+use Rattle.redo_spec.proofs.laws.the_first_bad_record_is_told.Goals as goal
+
+pub returns : goal.returns
+returns c = first_bad
