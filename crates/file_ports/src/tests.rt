@@ -1,4 +1,4 @@
-//! Each device once over a real file or stream.
+//! An archive over real files, and each stream once.
 use crate::{FileArchive, StdSink, StdSource};
 use rl_ports::{Archive, Sink, Source};
 use std::fs;

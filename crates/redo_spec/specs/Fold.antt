@@ -115,7 +115,8 @@ verdict_of None stop = Stopped stop
 verdict_of (Some v) stop = v
 
 -- A fold's count and SCN, its tables, and why it goes no further; and the definitions that name the tables of that
--- reason. They are those of the tables, unless the redo ends with the record that would have made the dictionary whole.
+-- reason. Where the dictionary is whole they are those of the tables; else those that the records have left so far, to
+-- which the vectors of a bad record before its bad one count.
 pub record Folded : Type 0 where
   pub n : ℕ
   pub scn : ℕ

@@ -2,7 +2,7 @@
 -- A mark is three numbers: a restart record q, a mining record m and an applied count n. The run reads from record q + 1
 -- on, knows that the records up to m are well, and has applied the commits up to n. After the two SCNs of a checkpoint,
 -- RESTART_SCN and MINING_SCN; this project's own.
-use Rattle.std.specs.Prelude.{ℕ, ◌≡◌, ◌≤◌, ◌<◌, List, [], take, drop, None}
+use Rattle.std.specs.Prelude.{ℕ, ◌≡◌, ◌≤◌, ◌<◌, List, [], take, drop, length, None}
 use Rattle.std.specs.List.{AllByRecursion}
 use Rattle.redo_spec.specs.History.{Entry, commits_after, commit_count, no_history}
 use Rattle.redo_spec.specs.Standing.{Standing, beginning}
@@ -12,10 +12,11 @@ use Rattle.redo_spec.specs.Law.{Admitted, admission}
 abbrev pub front : ℕ → ℕ → List Entry → ℕ → Admitted
 front first base entries k = admission (beginning first base) (no_history 0) (take k entries)
 
--- The records up to m are well; and each transaction that is open behind them, or whose commit is numbered above n, began
+-- There are so many records, and those up to m are well; and each transaction that is open behind them, or whose commit is numbered above n, began
 -- behind record q.
 pub record MarkFits (first base : ℕ) (entries : List Entry) (q m n : ℕ) : Type 0 where
   pub order : q ≤ m
+  pub there : m ≤ length entries
   pub well : (front first base entries m).fault ≡ None
   pub behind : AllByRecursion (λ t. q < t.start.rec) (front first base entries m).history.active
   pub above : AllByRecursion (λ c. q < c.txn.start.rec) (commits_after (front first base entries m).history.commits n)

@@ -531,7 +531,7 @@ paired = record {
   keys = (0 ∷ []) ∷ (1 ∷ 2 ∷ []) ∷ [];
 }
 
--- the END line of these records behind a dictionary of that table and a commit of its row 1 with the values 1 and 5
+-- the END line of these records behind a dictionary of that table and a commit of its row of ID 1 with the values 1 and 5
 abbrev pub paired_end : List RedoRec → List ℕ
 paired_end records = last_line (fold_lines (fold_of_redo 1 99 (map (λ r. (head_of 9, r)) (
     rec 100 (Table paired ∷ DictEnd ∷ [])
@@ -539,7 +539,7 @@ paired_end records = last_line (fold_lines (fold_of_redo 1 99 (map (λ r. (head_
     ∷ rec 102 (Commit (one_of 4) ∷ [])
     ∷ records)) Drained))
 
--- the update of row 1 that sets the first column of its unique key, where these are its old cells
+-- the update of the row of ID 1 that sets the first column of its unique key, where these are its old cells
 abbrev pub half_moved : List (ℕ × Value) → Vector
 half_moved old = update 1 old ((1, n 2) ∷ [])
 

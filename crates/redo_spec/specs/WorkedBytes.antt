@@ -10,6 +10,7 @@ use Rattle.redo_vec.specs.Spelling.{be16, be32, be64}
 abbrev pub record_with : List ℕ → List ℕ
 record_with vector = be32 (14 + length vector) ++ be64 5 ++ be16 1 ++ vector
 
+-- the fault that is told, with its place
 abbrev pub told : Result RedoRec Fault → Option (VecFault × ℕ)
 told (Ok r) = None
 told (Err f) = Some (f.fault, f.place)

@@ -146,7 +146,8 @@ fn a_text_of_501_bytes_is_refused_at_its_length(rt: HostRuntime) -> Result<(), F
     Ok(())
 }
 
-// The insert of a first log with two or three of its bytes changed: a count, a column and a tag stand in its bytes 36 to 39.
+// The insert of a first log with one to three of its bytes changed: its two counts of cells, a column and a tag stand in its
+// bytes 36 to 39.
 #[test]
 fn each_fault_is_told_at_its_place(rt: HostRuntime) -> Result<(), Fail> {
     let cases = [

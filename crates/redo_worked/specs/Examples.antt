@@ -23,7 +23,7 @@ folded_over rows skips records =
     let a = admission (beginning 1 99) (no_history 0) (emp_entries records) in
     fold_lines (folded (record { tables = record { row = emp; rows = rows } ∷ []; n = 0; scn = 99; local = [] }) skips a.history.commits (redo_end a Drained))
 
--- row 1 with these two texts
+-- the row of ID 1 with these two texts
 abbrev pub row_one : Value → Value → Rows
 row_one name email = (n 1 ∷ [], n 1 ∷ name ∷ email ∷ []) ∷ []
 

@@ -1,13 +1,8 @@
 //! Laws of overlaid and of sound tables, each stated by a public function with an empty body.
-ghost use Rattle.std.specs.Prelude.{◌≡◌, List, [], Some, IsTrue};
-ghost use Rattle.std.specs.List.{Contains};
+ghost use Rattle.std.specs.Prelude.{◌≡◌, List, []};
 ghost use Rattle.redo_vec.specs.declared.table.TableRow.{TableRow};
-ghost use Rattle.redo_spec.specs.ChangeForm.{is_row_of};
-ghost use Rattle.redo_spec.specs.Dictionary.{table_of};
-ghost use Rattle.redo_spec.specs.Tables.{Tables, definitions_of, empty_tables, primary_key};
-ghost use Rattle.rl_value.specs.declared.value.Value.{Value};
-ghost use Rattle.row_apply.specs.declared.writes.Write.{Write};
-ghost use Rattle.row_apply.specs.Overlaid.{overlaid, writes_rise, written_key};
+ghost use Rattle.redo_spec.specs.Tables.{Tables, empty_tables};
+ghost use Rattle.row_apply.specs.Overlaid.{overlaid};
 ghost use Rattle.row_apply.specs.Soundness.{AreSound};
 
 /// Tables without rows are sound.
