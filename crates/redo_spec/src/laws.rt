@@ -23,34 +23,34 @@ ghost use Rattle.rl_value.specs.declared.verdict.Verdict.TheVariants.{Stopped};
 
 /// The fold of a spelled log, from its bytes, is the fold of its records.
 pub fn spelled_log_is_read()
-    ensures { (seq : ℕ) (log : Log) → IsLog log → header_fault seq (log_bytes log) ≡ None →
+    ensures read { (seq : ℕ) (log : Log) → IsLog log → header_fault seq (log_bytes log) ≡ None →
         fold_of_log seq (Some (log_bytes log)) ≡ fold_of_redo seq (log.head.first - 1) (entries_of log) Drained }
 {}
 
 /// Bytes that are read without a fault are the spelling of the log that is read.
 pub fn read_log_is_spelled()
-    ensures { (seq : ℕ) (bytes : List ℕ) → AreBytes bytes → header_fault seq bytes ≡ None → (records_of bytes).cause ≡ None →
+    ensures spelled { (seq : ℕ) (bytes : List ℕ) → AreBytes bytes → header_fault seq bytes ≡ None → (records_of bytes).cause ≡ None →
         IsSpelled (record { head = header_in bytes; records = map (λ e. e.1) (records_of bytes).entries }) bytes }
 {}
 
 /// The standing by which records are judged and the history of their transactions agree: each open transaction stands in
 /// the first with the conflict keys of the survivors that it has in the second.
 pub fn standing_and_history_agree()
-    ensures { (first base before : ℕ) (entries : List Entry) →
+    ensures agree { (first base before : ℕ) (entries : List Entry) →
         let a = admission (beginning first base) (no_history before) entries in
         a.standing.active ≡ open_txns a.standing.dictionary.tables a.history.active }
 {}
 
 /// At one commit more the tables are those of before with the kept changes of that commit.
 pub fn one_commit_more()
-    ensures { (b : Base) (skips : List Skip) (commits : Commits) (n : ℕ) (commit : Committed) →
+    ensures tables { (b : Base) (skips : List Skip) (commits : Commits) (n : ℕ) (commit : Committed) →
         commits.before ≤ b.n → b.n ≤ n → n < commit_count commits → get_or commits.made (n - commits.before) commit ≡ commit →
         tables_at b skips commits (n + 1) ≡ with_commit skips n commit (tables_at b skips commits n) }
 {}
 
 /// A change without a lock fault touches no key that another open transaction holds.
 pub fn admitted_keys_are_free()
-    ensures { (s : Standing) (change : Change) → lock_fault s change ≡ None →
+    ensures free { (s : Standing) (change : Change) → lock_fault s change ≡ None →
         AllByRecursion (λ h. (not (same_xid h.1 change.xid) && list_any (eq_by_cmp key_cmp h.0) (conflict_keys s.dictionary.tables change)) ≡ false) (held_keys s.active) }
 {}
 
@@ -80,7 +80,7 @@ pub fn admitted_records_leave_this()
 
 /// The first bad record is told: those before it fit, and it does not.
 pub fn the_first_bad_record_is_told()
-    ensures { (s : Standing) (history : History) (entries : List Entry) (found : LawFault) →
+    ensures told { (s : Standing) (history : History) (entries : List Entry) (found : LawFault) →
         (admission s history entries).fault ≡ Some found → IsFirstBad s history entries found }
 {}
 

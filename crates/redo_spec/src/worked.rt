@@ -24,7 +24,7 @@ ghost use Rattle.redo_spec.specs.Mark.{MarkFits};
 
 /// The 146 bytes of the first log.
 pub fn first_log_is_spelled()
-    ensures { log_bytes first_log ≡ first_bytes }
+    ensures spelled { log_bytes first_log ≡ first_bytes }
 {}
 
 /// One transaction inserts one number: from the records, and from the bytes.
@@ -37,7 +37,7 @@ pub fn first_log_folds()
 
 /// An update that an UNDO takes back leaves the insert before it.
 pub fn undone_update_folds()
-    ensures { emp_fold undone_update Drained
+    ensures undone { emp_fold undone_update Drained
         ≡ codes "APPLIED_SCN 104" ∷ codes "TABLE HR.EMP 1" ∷ codes "ROW 1 'Ann' NULL" ∷ codes "END 104 1 DRAINED" ∷ [] }
 {}
 
@@ -50,26 +50,26 @@ pub fn locked_key_folds()
 
 /// An update of a row that is not there is a mismatch.
 pub fn absent_row_folds()
-    ensures { emp_fold absent_row Drained
+    ensures absent { emp_fold absent_row Drained
         ≡ codes "APPLIED_SCN 99" ∷ codes "TABLE HR.EMP 0" ∷ codes "END 99 0 MISMATCH 102 2.2 HR.EMP ABSENT (1)" ∷ [] }
 {}
 
 /// A record that is cut short ends the redo, and what stands before it is folded.
 pub fn cut_short_folds()
-    ensures { emp_fold cut_short (Malformed 5 (Cut Truncated))
+    ensures truncated { emp_fold cut_short (Malformed 5 (Cut Truncated))
         ≡ codes "APPLIED_SCN 102" ∷ codes "TABLE HR.EMP 1" ∷ codes "ROW 7 NULL NULL" ∷ codes "END 102 1 MALFORMED 5 TRUNCATED" ∷ [] }
 {}
 
 /// A row that is not as it was logged is a mismatch, at the column.
 pub fn differing_row_folds()
-    ensures { emp_fold differing_row Drained
+    ensures differs { emp_fold differing_row Drained
         ≡ codes "APPLIED_SCN 102" ∷ codes "TABLE HR.EMP 1" ∷ codes "ROW 1 'Z' NULL"
         ∷ codes "END 102 1 MISMATCH 104 4.2 HR.EMP DIFFERS NAME 'A' 'Z'" ∷ [] }
 {}
 
 /// A log that is not there is a gap.
 pub fn absent_log_folds()
-    ensures { fold_bytes 1 None ≡ codes "APPLIED_SCN 0" ∷ codes "END 0 0 GAP 1 1" ∷ [] }
+    ensures gap { fold_bytes 1 None ≡ codes "APPLIED_SCN 0" ∷ codes "END 0 0 GAP 1 1" ∷ [] }
 {}
 
 /// A header that is refused is told, and no table is known.
@@ -81,13 +81,13 @@ pub fn bad_header_folds()
 
 /// The same as a record cut short, from the bytes of a log whose last byte is missing.
 pub fn cut_short_log_folds()
-    ensures { fold_bytes 1 (Some cut_short_log)
+    ensures truncated { fold_bytes 1 (Some cut_short_log)
         ≡ codes "APPLIED_SCN 102" ∷ codes "TABLE HR.EMP 1" ∷ codes "ROW 7 NULL NULL" ∷ codes "END 102 1 MALFORMED 5 TRUNCATED" ∷ [] }
 {}
 
 /// Bytes behind the last record are told of the next record's number.
 pub fn trailing_byte_is_malformed()
-    ensures { last_line (fold_bytes 1 (Some trailing_log)) ≡ codes "END 102 1 MALFORMED 4 TRAILING" }
+    ensures trailing { last_line (fold_bytes 1 (Some trailing_log)) ≡ codes "END 102 1 MALFORMED 4 TRAILING" }
 {}
 
 /// A text of three bytes is read and printed; one of 501 bytes is refused at its length.
@@ -159,18 +159,18 @@ pub fn unique_values_are_taken()
 
 /// An insert of a key that is there is a mismatch.
 pub fn existing_row_folds()
-    ensures { last_line (emp_fold existing_row Drained) ≡ codes "END 102 1 MISMATCH 104 4.2 HR.EMP EXISTS (1)" }
+    ensures exists { last_line (emp_fold existing_row Drained) ≡ codes "END 102 1 MISMATCH 104 4.2 HR.EMP EXISTS (1)" }
 {}
 
 /// An update of the primary key moves the row.
 pub fn moved_row_folds()
-    ensures { emp_fold moved_row Drained
+    ensures moved { emp_fold moved_row Drained
         ≡ codes "APPLIED_SCN 106" ∷ codes "TABLE HR.EMP 2" ∷ codes "ROW 1 'N' NULL" ∷ codes "ROW 5 'A' NULL" ∷ codes "END 106 3 DRAINED" ∷ [] }
 {}
 
 /// The id of a transaction that has ended is used again.
 pub fn xid_is_used_again()
-    ensures { emp_fold xid_used_again Drained
+    ensures again { emp_fold xid_used_again Drained
         ≡ codes "APPLIED_SCN 104" ∷ codes "TABLE HR.EMP 1" ∷ codes "ROW 2 NULL NULL" ∷ codes "END 104 1 DRAINED" ∷ [] }
 {}
 
@@ -223,7 +223,7 @@ pub fn mined_logs_are_met_in_order()
 
 /// A dictionary alone gives tables without rows.
 pub fn dictionary_alone_folds()
-    ensures { emp_fold [] Drained ≡ codes "APPLIED_SCN 99" ∷ codes "TABLE HR.EMP 0" ∷ codes "END 99 0 DRAINED" ∷ [] }
+    ensures rowless { emp_fold [] Drained ≡ codes "APPLIED_SCN 99" ∷ codes "TABLE HR.EMP 0" ∷ codes "END 99 0 DRAINED" ∷ [] }
 {}
 
 /// What is rolled back leaves nothing, and its keys are free.
@@ -236,7 +236,7 @@ pub fn rolled_back_changes_leave_nothing()
 
 /// A change that an UNDO took back touches nothing any more: another transaction may take its key.
 pub fn undone_change_frees_its_key()
-    ensures { emp_fold undone_insert Drained
+    ensures freed { emp_fold undone_insert Drained
         ≡ codes "APPLIED_SCN 107" ∷ codes "TABLE HR.EMP 2" ∷ codes "ROW 1 NULL NULL" ∷ codes "ROW 2 'T' NULL" ∷ codes "END 107 2 DRAINED" ∷ [] }
 {}
 
@@ -259,7 +259,7 @@ pub fn unique_values_are_locked()
 
 /// A lock in the record that ends the dictionary is told with its table's name, though no table is known.
 pub fn lock_beside_the_dictionary_names_its_table()
-    ensures { dictionary_end (Table emp ∷ DictEnd ∷ start 1 ∷ row 1 1 ∷ start 2 ∷ row 2 1 ∷ [])
+    ensures named { dictionary_end (Table emp ∷ DictEnd ∷ start 1 ∷ row 1 1 ∷ start 2 ∷ row 2 1 ∷ [])
         ≡ codes "END 99 0 MALFORMED 1 LOCK HR.EMP 0 (1) 1.1.1" }
 {}
 
@@ -271,13 +271,13 @@ pub fn registered_logs_fold()
 
 /// A table that is skipped shows its local rows, and the others the fold.
 pub fn skipped_table_shows_local_rows()
-    ensures { audited_under (record { rule = Tables (codes "HR.AUD%"); from = 0 } ∷ [])
+    ensures local { audited_under (record { rule = Tables (codes "HR.AUD%"); from = 0 } ∷ [])
         ≡ codes "TABLE HR.EMP 1" ∷ codes "ROW 1 'A' NULL" ∷ codes "TABLE HR.AUDIT 1" ∷ codes "ROW 1 'x'" ∷ [] }
 {}
 
 /// The longest text.
 pub fn longest_text_is_read()
-    ensures { last_line (fold_bytes 1 (Some (long_text_log 500))) ≡ codes "END 102 1 DRAINED" }
+    ensures longest { last_line (fold_bytes 1 (Some (long_text_log 500))) ≡ codes "END 102 1 DRAINED" }
 {}
 
 /// Each miss of an update and of a delete.

@@ -2,4 +2,4 @@ use Rattle.redo_spec.proofs.AdmissionLaws.{first_bad}
 use Rattle.redo_spec.proofs.laws.the_first_bad_record_is_told.Goals as goal
 
 pub returns : goal.returns
-returns c = first_bad
+returns c = record { told = first_bad }

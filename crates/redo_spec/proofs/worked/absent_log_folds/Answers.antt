@@ -4,4 +4,4 @@ use Rattle.redo_spec.proofs.worked.absent_log_folds.Goals as goal
 
 pub returns : goal.returns
 unfolding digits
-returns c = refl
+returns c = record { gap = refl }

@@ -4,4 +4,4 @@ use Rattle.redo_spec.proofs.worked.lock_beside_the_dictionary_names_its_table.Go
 
 pub returns : goal.returns
 unfolding digits
-returns c = refl
+returns c = record { named = refl }

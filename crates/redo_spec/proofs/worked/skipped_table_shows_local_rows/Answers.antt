@@ -4,4 +4,4 @@ use Rattle.redo_spec.proofs.worked.skipped_table_shows_local_rows.Goals as goal
 
 pub returns : goal.returns
 unfolding digits
-returns c = refl
+returns c = record { local = refl }

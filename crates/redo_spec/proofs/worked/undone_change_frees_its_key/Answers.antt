@@ -4,4 +4,4 @@ use Rattle.redo_spec.proofs.worked.undone_change_frees_its_key.Goals as goal
 
 pub returns : goal.returns
 unfolding digits
-returns c = refl
+returns c = record { freed = refl }

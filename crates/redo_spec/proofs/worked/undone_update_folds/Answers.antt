@@ -4,4 +4,4 @@ use Rattle.redo_spec.proofs.worked.undone_update_folds.Goals as goal
 
 pub returns : goal.returns
 unfolding digits
-returns c = refl
+returns c = record { undone = refl }

@@ -4,4 +4,4 @@ use Rattle.redo_spec.proofs.worked.xid_is_used_again.Goals as goal
 
 pub returns : goal.returns
 unfolding digits
-returns c = refl
+returns c = record { again = refl }
