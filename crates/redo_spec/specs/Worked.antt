@@ -240,7 +240,8 @@ short_insert = OfChange (record { xid = one_of 1; op = Insert; table = 1; old = 
 abbrev pub mistyped_insert : Vector
 mistyped_insert = insert 1 (Text (codes "one")) Null Null
 
--- two transactions hold a key each, and a third touches both: the greater of them first in its cells
+-- a first transaction holds a unique value, a second one a primary key, and a third touches both: the primary key is the
+-- lesser of them
 abbrev pub two_holders : List RedoRec
 two_holders =
     rec 101 (start 1 ∷ with_email 1 5 (codes "e@x") ∷ [])

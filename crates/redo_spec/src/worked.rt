@@ -311,7 +311,7 @@ pub fn further_dictionaries()
     ensures table_257 { table_fault (replicate 256 emp) (keyed ((0 ∷ []) ∷ [])) ≡ Some Limit }
     ensures twice_before_names { dictionary_end (Table emp ∷ Table (record emp { name = codes "1EMP" }) ∷ []) ≡ codes "END 99 0 MALFORMED 1 TWICE" }
     ensures names_before_keys { dictionary_end (Table (record emp { name = codes "1EMP"; keys = (3 ∷ []) ∷ [] }) ∷ []) ≡ codes "END 99 0 MALFORMED 1 NAMES" }
-    ensures keys_before_limit { dictionary_end (Table (record (text_keyed 126) { keys = (1 ∷ []) ∷ [] }) ∷ []) ≡ codes "END 99 0 MALFORMED 1 KEYS" }
+    ensures key_of_no_column { dictionary_end (Table (record (text_keyed 126) { keys = (1 ∷ []) ∷ [] }) ∷ []) ≡ codes "END 99 0 MALFORMED 1 KEYS" }
     ensures late { last_line (fold_lines (fold_of_redo 1 99 late_dictionary Drained)) ≡ codes "END 99 0 MALFORMED 2 DICTIONARY" }
     ensures before_not_open { dictionary_end (Table emp ∷ row 1 1 ∷ []) ≡ codes "END 99 0 MALFORMED 1 DICTIONARY" }
 {}
@@ -361,7 +361,7 @@ pub fn key_of_two_columns_moves()
         ≡ codes "END 102 1 MALFORMED 5 LOCK T.P 1 (2,5) 1.1.1" }
     ensures old_held { paired_end (rec 103 (start 1 ∷ half_moved half_moved_logged ∷ []) ∷ rec 103 (start 2 ∷ insert_all 2 (n 2 ∷ n 1 ∷ n 5 ∷ []) ∷ []) ∷ [])
         ≡ codes "END 102 1 MALFORMED 5 LOCK T.P 1 (1,5) 1.1.1" }
-    ensures supplement_before_lock { paired_end (rec 103 (start 2 ∷ insert_all 2 (n 2 ∷ n 2 ∷ n 5 ∷ []) ∷ start 1 ∷ half_moved ((0, n 1) ∷ (1, n 1) ∷ []) ∷ []) ∷ [])
+    ensures unlogged_onto_held { paired_end (rec 103 (start 2 ∷ insert_all 2 (n 2 ∷ n 2 ∷ n 5 ∷ []) ∷ start 1 ∷ half_moved ((0, n 1) ∷ (1, n 1) ∷ []) ∷ []) ∷ [])
         ≡ codes "END 102 1 MALFORMED 4 SUPPLEMENT" }
 {}
 

@@ -46,9 +46,9 @@ pub returns-clause-names_before_keys : goal.returns-clause-names_before_keys
 unfolding digits
 returns-clause-names_before_keys c = refl
 
-pub returns-clause-keys_before_limit : goal.returns-clause-keys_before_limit
+pub returns-clause-key_of_no_column : goal.returns-clause-key_of_no_column
 unfolding digits
-returns-clause-keys_before_limit c = refl
+returns-clause-key_of_no_column c = refl
 
 pub returns-clause-late : goal.returns-clause-late
 unfolding digits

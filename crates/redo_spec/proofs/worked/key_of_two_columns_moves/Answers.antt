@@ -22,6 +22,6 @@ pub returns-clause-old_held : goal.returns-clause-old_held
 unfolding digits
 returns-clause-old_held c = refl
 
-pub returns-clause-supplement_before_lock : goal.returns-clause-supplement_before_lock
+pub returns-clause-unlogged_onto_held : goal.returns-clause-unlogged_onto_held
 unfolding digits
-returns-clause-supplement_before_lock c = refl
+returns-clause-unlogged_onto_held c = refl
