@@ -94,15 +94,19 @@ or_behind q m b None left left_behind s h later later_behind same more = more re
 or_behind q m b (Some fault) left left_behind s h later later_behind same more =
     ap (λ (d : Dictionary). record { standing = behind q m s; history = history_behind q b h; fault = Some fault; left = d }) same
 
--- where the open transactions began behind record q, none is missing
+-- of transactions that began behind record q none is missing
+none_missing : (q : ℕ) (ts : List Txn) → AllByRecursion (λ t. q < t.start.rec) ts → filter (λ t. nat_lt q t.start.rec) ts ≡ ts
+none_missing q ts late =
+    filter_all (λ (t : Txn). nat_lt q t.start.rec) ts
+    (all_weaker (λ (t : Txn). q < t.start.rec) (λ (t : Txn). nat_lt q t.start.rec ≡ true) (λ t is. lt-ltb q t.start.rec is) ts late)
+
+-- where the open transactions began behind it, the standing has them all
 all_open : (q : ℕ) (s : Standing) (h : History) → Agrees s h → AllByRecursion (λ t. q < t.start.rec) h.active → filter (λ t. nat_lt q t.start.rec) s.active ≡ s.active
 all_open q s h a late =
     let tables = s.dictionary.tables in
     ap (λ (ts : List OpenTxn). filter (λ t. nat_lt q t.start.rec) ts) a.same
     ∙ filter_seen (open_txn tables) (λ t. nat_lt q t.start.rec) (λ t. nat_lt q t.start.rec) (λ t. refl) h.active
-    ∙ ap (open_txns tables)
-    (filter_all (λ (t : Txn). nat_lt q t.start.rec) h.active
-    (all_weaker (λ (t : Txn). q < t.start.rec) (λ (t : Txn). nat_lt q t.start.rec ≡ true) (λ t is. lt-ltb q t.start.rec is) h.active late))
+    ∙ ap (open_txns tables) (none_missing q h.active late)
     ∙ sym a.same
 
 -- behind it both judge alike
@@ -273,6 +277,30 @@ runs_alike first base q m n begun between later p =
     ∙ later_alike q m n b later am.standing am.history (λ some. omega (arith, rec_m, known, some)) p.order at.sound at.old at.began
     ∙ ap (admitted_behind q m b) (sym (whole_goes_on first base q m n begun between later p))
 
+-- What the whole redo has come to at its end.
+record AtEnd (q n b : ℕ) (a : Admitted) : Type 0 where
+  sound : Sound a.standing a.history
+  old : Old q b a.history
+  began : Began (λ k. q < k) n a.history
+
+at_end : (first base q m n : ℕ) (begun between later : List Entry) → Parts first base q m n begun between later →
+    let aq = admission (beginning first base) (no_history 0) begun in
+    AtEnd q n (commit_count aq.history.commits) (admission (beginning first base) (no_history 0) (begun ++ (between ++ later)))
+at_end first base q m n begun between later p =
+    let aq = admission (beginning first base) (no_history 0) begun in
+    let am = admission aq.standing aq.history between in
+    let b = commit_count aq.history.commits in
+    let at = at_known first base q m n begun between later p in
+    let order = p.order in
+    let known = p.known in
+    let rec_m = at.rec in
+    let end : AtEnd q n b (admission am.standing am.history later) = record {
+      sound = sound_at later am.standing am.history at.sound;
+      old = old_at q b later am.standing am.history at.old;
+      began = late_at q n later am.standing am.history (λ some. omega (arith, rec_m, known, order, some)) at.began;
+    } in
+    subst (AtEnd q n b) (sym (whole_goes_on first base q m n begun between later p)) end
+
 -- ---- the commits above the applied count
 
 clash : {X : Type 0} (q n b : ℕ) (made : List Committed) → n < b → b ≤ length made → AllByRecursion (λ c. c.txn.start.rec ≤ q) (take b made) →
@@ -299,28 +327,6 @@ commits_seen q b n h old before began =
     ∙ map_same (λ (c : Committed). q < c.txn.start.rec) (seen q) (seen_late q) (drop n h.commits.made) began.made)
     (cases_lt n b) in
     same ∙ ap (λ k. drop k h.commits.made) number
-
-commits_alike : (first base q m n : ℕ) (begun between later : List Entry) → Parts first base q m n begun between later →
-    let aq = admission (beginning first base) (no_history 0) begun in
-    commits_after (admission (from_mark aq.standing m) (no_history (commit_count aq.history.commits)) (between ++ later)).history.commits n
-    ≡ commits_after (admission (beginning first base) (no_history 0) (begun ++ (between ++ later))).history.commits n
-commits_alike first base q m n begun between later p =
-    let aq = admission (beginning first base) (no_history 0) begun in
-    let am = admission aq.standing aq.history between in
-    let b = commit_count aq.history.commits in
-    let whole = admission (beginning first base) (no_history 0) (begun ++ (between ++ later)) in
-    let end = admission am.standing am.history later in
-    let same : whole ≡ end = whole_goes_on first base q m n begun between later p in
-    let at = at_known first base q m n begun between later p in
-    let order = p.order in
-    let known = p.known in
-    let rec_m = at.rec in
-    let sound : Sound end.standing end.history = sound_at later am.standing am.history at.sound in
-    ap (λ (a : Admitted). commits_after a.history.commits n) (runs_alike first base q m n begun between later p)
-    ∙ ap (λ (a : Admitted). commits_after (history_behind q b a.history).commits n) same
-    ∙ commits_seen q b n end.history (old_at q b later am.standing am.history at.old) sound.before
-    (late_at q n later am.standing am.history (λ some. omega (arith, rec_m, known, order, some)) at.began)
-    ∙ ap (λ (a : Admitted). commits_after a.history.commits n) (sym same)
 
 -- ---- a fitting mark
 
@@ -378,39 +384,47 @@ resumed_alike first base es q m n fits =
     ∙ runs_alike first base q m n (take q es) (middle es q m) (back es q m) (fitting_parts first base es q m n fits)
     ∙ ap (λ (xs : List Entry). admitted_behind q m b (admission (beginning first base) (no_history 0) xs)) (whole_is es q m)
 
+-- what the whole redo has come to, by the commits up to record q
+fitting_end : (first base : ℕ) (es : List Entry) (q m n : ℕ) → MarkFits first base es q m n →
+    AtEnd q n (commit_count (front first base es q).history.commits) (admission (beginning first base) (no_history 0) es)
+fitting_end first base es q m n fits =
+    let b = commit_count (front first base es q).history.commits in
+    subst (λ (xs : List Entry). AtEnd q n b (admission (beginning first base) (no_history 0) xs)) (whole_is es q m)
+    (at_end first base q m n (take q es) (middle es q m) (back es q m) (fitting_parts first base es q m n fits))
+
+pub resumed_standing : (first base : ℕ) (es : List Entry) (q m n : ℕ) → MarkFits first base es q m n →
+    (resumed first base es q m).standing ≡ knowing m (admission (beginning first base) (no_history 0) es).standing
+resumed_standing first base es q m n fits =
+    let whole = admission (beginning first base) (no_history 0) es in
+    let end = fitting_end first base es q m n fits in
+    ap (λ (a : Admitted). a.standing) (resumed_alike first base es q m n fits)
+    ∙ ap (λ (ts : List OpenTxn). record whole.standing { known = m; active = ts }) (all_open q whole.standing whole.history end.sound.agrees end.began.active)
+
+pub resumed_active : (first base : ℕ) (es : List Entry) (q m n : ℕ) → MarkFits first base es q m n →
+    (resumed first base es q m).history.active ≡ (admission (beginning first base) (no_history 0) es).history.active
+resumed_active first base es q m n fits =
+    let whole = admission (beginning first base) (no_history 0) es in
+    let end = fitting_end first base es q m n fits in
+    ap (λ (a : Admitted). a.history.active) (resumed_alike first base es q m n fits) ∙ none_missing q whole.history.active end.began.active
+
 pub resumed_commits : (first base : ℕ) (es : List Entry) (q m n : ℕ) → MarkFits first base es q m n →
     commits_after (resumed first base es q m).history.commits n ≡ commits_after (admission (beginning first base) (no_history 0) es).history.commits n
 resumed_commits first base es q m n fits =
-    let aq = front first base es q in
-    let b = commit_count aq.history.commits in
-    ap (λ (xs : List Entry). commits_after (admission (from_mark aq.standing m) (no_history b) xs).history.commits n) (sym (back_is es q m))
-    ∙ commits_alike first base q m n (take q es) (middle es q m) (back es q m) (fitting_parts first base es q m n fits)
-    ∙ ap (λ (xs : List Entry). commits_after (admission (beginning first base) (no_history 0) xs).history.commits n) (whole_is es q m)
+    let b = commit_count (front first base es q).history.commits in
+    let whole = admission (beginning first base) (no_history 0) es in
+    let end = fitting_end first base es q m n fits in
+    ap (λ (a : Admitted). commits_after a.history.commits n) (resumed_alike first base es q m n fits)
+    ∙ commits_seen q b n whole.history end.old end.sound.before end.began
 
 -- ---- the number of commits
 
 count_seen : (q b : ℕ) (h : History) → Old q b h → h.commits.before ≡ 0 → commit_count (history_behind q b h).commits ≡ commit_count h.commits
 count_seen q b h old before = let few = old.few in omega (arith, before, few, length-map (drop b h.commits.made) (seen q), length-drop b h.commits.made)
 
-count_alike : (first base q m n : ℕ) (begun between later : List Entry) → Parts first base q m n begun between later →
-    let b = commit_count (admission (beginning first base) (no_history 0) begun).history.commits in
-    let whole = admission (beginning first base) (no_history 0) (begun ++ (between ++ later)) in
-    commit_count (history_behind q b whole.history).commits ≡ commit_count whole.history.commits
-count_alike first base q m n begun between later p =
-    let aq = admission (beginning first base) (no_history 0) begun in
-    let am = admission aq.standing aq.history between in
-    let b = commit_count aq.history.commits in
-    let end = admission am.standing am.history later in
-    let at = at_known first base q m n begun between later p in
-    let sound : Sound end.standing end.history = sound_at later am.standing am.history at.sound in
-    subst (λ (a : Admitted). commit_count (history_behind q b a.history).commits ≡ commit_count a.history.commits) (sym (whole_goes_on first base q m n begun between later p))
-    (count_seen q b end.history (old_at q b later am.standing am.history at.old) sound.before)
-
 pub resumed_count : (first base : ℕ) (es : List Entry) (q m n : ℕ) → MarkFits first base es q m n →
     commit_count (resumed first base es q m).history.commits ≡ commit_count (admission (beginning first base) (no_history 0) es).history.commits
 resumed_count first base es q m n fits =
     let b = commit_count (front first base es q).history.commits in
-    ap (λ (a : Admitted). commit_count a.history.commits) (resumed_alike first base es q m n fits)
-    ∙ subst (λ (xs : List Entry). let whole = admission (beginning first base) (no_history 0) xs in
-    commit_count (history_behind q b whole.history).commits ≡ commit_count whole.history.commits) (whole_is es q m)
-    (count_alike first base q m n (take q es) (middle es q m) (back es q m) (fitting_parts first base es q m n fits))
+    let whole = admission (beginning first base) (no_history 0) es in
+    let end = fitting_end first base es q m n fits in
+    ap (λ (a : Admitted). commit_count a.history.commits) (resumed_alike first base es q m n fits) ∙ count_seen q b whole.history end.old end.sound.before

@@ -55,7 +55,8 @@ pub fn admitted_keys_are_free()
 {}
 
 /// From a fitting mark a run goes on exactly as the whole redo does: it comes as far, and meets the same fault with the same
-/// dictionary left, its commits have the same numbers, and those above the applied count are the same.
+/// dictionary left; its standing is the same, but that m records are known, and the same transactions are open; its commits have
+/// the same numbers, and those above the applied count are the same.
 pub fn a_run_from_a_mark_goes_as_far()
     ensures fault { (first base : ℕ) (entries : List Entry) (q m n : ℕ) → MarkFits first base entries q m n →
         (resumed first base entries q m).fault ≡ (admission (beginning first base) (no_history 0) entries).fault }
@@ -63,6 +64,10 @@ pub fn a_run_from_a_mark_goes_as_far()
         (resumed first base entries q m).left ≡ (admission (beginning first base) (no_history 0) entries).left }
     ensures records { (first base : ℕ) (entries : List Entry) (q m n : ℕ) → MarkFits first base entries q m n →
         (resumed first base entries q m).standing.rec ≡ (admission (beginning first base) (no_history 0) entries).standing.rec }
+    ensures standing { (first base : ℕ) (entries : List Entry) (q m n : ℕ) → MarkFits first base entries q m n →
+        (resumed first base entries q m).standing ≡ record (admission (beginning first base) (no_history 0) entries).standing { known = m } }
+    ensures active { (first base : ℕ) (entries : List Entry) (q m n : ℕ) → MarkFits first base entries q m n →
+        (resumed first base entries q m).history.active ≡ (admission (beginning first base) (no_history 0) entries).history.active }
     ensures count { (first base : ℕ) (entries : List Entry) (q m n : ℕ) → MarkFits first base entries q m n →
         commit_count (resumed first base entries q m).history.commits ≡ commit_count (admission (beginning first base) (no_history 0) entries).history.commits }
     ensures commits { (first base : ℕ) (entries : List Entry) (q m n : ℕ) → MarkFits first base entries q m n →
