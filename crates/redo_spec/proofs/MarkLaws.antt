@@ -3,14 +3,14 @@
 use Rattle.std.proofs.Common.{◌≡◌, ℕ, zero, suc, ◌+◌, ◌-◌, ◌≤◌, ◌<◌, nat_lt, List, [], ◌∷◌, ◌++◌, take, drop, length, map, filter, sym, ap, ◌∙◌, refl, subst, true, false, cond, Option, Some, None, arith, ⊎_elim}
 use Rattle.std.specs.List.{AllByRecursion}
 use Rattle.std.proofs.lemmas.Bool.{lt-ltb, le-ltb, cases_lt}
-use Rattle.std.proofs.lemmas.List.{length-map, length-append, length-take, length-drop, take-append-drop, take-take, drop-take, drop-drop, drop_all, drop-map}
+use Rattle.std.proofs.lemmas.List.{length-map, length-append, length-take, length-drop, take-append-drop, take-append-le, take-take, drop-take, drop-drop, drop_all, drop-map}
 use Rattle.rl_value.specs.declared.cause.LawFault.{LawFault}
 use Rattle.redo_spec.specs.Dictionary.{Dictionary}
 use Rattle.redo_spec.specs.History.{Entry, Txn, Committed, History, commits_after, commit_count, no_history, known_by_commit, history_after}
 use Rattle.redo_spec.specs.Standing.{Standing, OpenTxn, beginning, open_txn, open_txns, record_after}
 use Rattle.redo_spec.specs.Law.{Admitted, record_fault, dictionary_left, admitted_or, admission}
 use Rattle.redo_spec.specs.Mark.{MarkFits, front, from_mark, resumed}
-use Rattle.redo_spec.proofs.ListLaws.{all_take, all_weaker, map_same, filter_all, filter_no}
+use Rattle.redo_spec.proofs.ListLaws.{all_take, all_drop, all_weaker, map_same, filter_all, filter_no}
 use Rattle.redo_spec.proofs.StandingLaws.{Agrees, filter_seen}
 use Rattle.redo_spec.proofs.AdmissionLaws.{rec_after_record, fault_first, fault_later, front_well, append_well, rec_well}
 use Rattle.redo_spec.proofs.MarkStandings.{behind, knowing, behind_after_record, record_behind, record_known, dictionary_known}
@@ -428,3 +428,36 @@ resumed_count first base es q m n fits =
     let whole = admission (beginning first base) (no_history 0) es in
     let end = fitting_end first base es q m n fits in
     ap (λ (a : Admitted). commit_count a.history.commits) (resumed_alike first base es q m n fits) ∙ count_seen q b whole.history end.old end.sound.before
+
+-- ---- a mark fits on
+
+-- at a greater applied count
+pub fits_at_more : (first base : ℕ) (es : List Entry) (q m n k : ℕ) → MarkFits first base es q m n → n ≤ k → MarkFits first base es q m k
+fits_at_more first base es q m n k fits more =
+    let commits = (front first base es m).history.commits in
+    let i = n - commits.before in
+    let j = k - commits.before in
+    let sum : i + (j - i) ≡ j = omega (arith, more) in
+    record {
+      order = fits.order;
+      there = fits.there;
+      well = fits.well;
+      behind = fits.behind;
+      above = subst (λ (cs : List Committed). AllByRecursion (λ (c : Committed). q < c.txn.start.rec) cs)
+          (drop-drop (j - i) i commits.made ∙ ap (λ d. drop d commits.made) sum)
+          (all_drop (λ (c : Committed). q < c.txn.start.rec) (j - i) (drop i commits.made) fits.above);
+    }
+
+-- in a longer redo
+pub fits_longer : (first base : ℕ) (es more : List Entry) (q m n : ℕ) → MarkFits first base es q m n → MarkFits first base (es ++ more) q m n
+fits_longer first base es more q m n fits =
+    let there = fits.there in
+    let same : take m es ≡ take m (es ++ more) = sym (take-append-le m es more there) in
+    record {
+      order = fits.order;
+      there = omega (arith, there, length-append es more);
+      well = subst (λ (xs : List Entry). (admission (beginning first base) (no_history 0) xs).fault ≡ None) same fits.well;
+      behind = subst (λ (xs : List Entry). AllByRecursion (λ (t : Txn). q < t.start.rec) (admission (beginning first base) (no_history 0) xs).history.active) same fits.behind;
+      above = subst (λ (xs : List Entry). AllByRecursion (λ (c : Committed). q < c.txn.start.rec) (commits_after (admission (beginning first base) (no_history 0) xs).history.commits n))
+          same fits.above;
+    }

@@ -1,5 +1,5 @@
 //! Laws of the definitions, each stated by a public function with an empty body.
-ghost use Rattle.std.specs.Prelude.{◌≡◌, ℕ, ◌+◌, ◌-◌, ◌≤◌, ◌<◌, List, map, get_or, Option, None, Some, Ok, false, not, ◌&&◌};
+ghost use Rattle.std.specs.Prelude.{◌≡◌, ℕ, ◌+◌, ◌-◌, ◌≤◌, ◌<◌, List, ◌++◌, map, get_or, Option, None, Some, Ok, false, not, ◌&&◌};
 ghost use Rattle.std.specs.List.{list_any, AllByRecursion};
 ghost use Rattle.std.specs.Ordering.{eq_by_cmp};
 ghost use Rattle.rl_value.specs.Order.{key_cmp};
@@ -73,6 +73,12 @@ pub fn a_run_from_a_mark_goes_as_far()
     ensures commits { (first base : ℕ) (entries : List Entry) (q m n : ℕ) → MarkFits first base entries q m n →
         commits_after (resumed first base entries q m).history.commits n
         ≡ commits_after (admission (beginning first base) (no_history 0) entries).history.commits n }
+{}
+
+/// A mark that fits does so at each greater applied count, and in each redo that goes on behind its records.
+pub fn a_mark_fits_on()
+    ensures count { (first base : ℕ) (entries : List Entry) (q m n k : ℕ) → MarkFits first base entries q m n → n ≤ k → MarkFits first base entries q m k }
+    ensures longer { (first base : ℕ) (entries more : List Entry) (q m n : ℕ) → MarkFits first base entries q m n → MarkFits first base (entries ++ more) q m n }
 {}
 
 /// What is admitted whole is what its records leave.
