@@ -1,11 +1,13 @@
 //! Runs the program over hostile logs, words and devices, and tests each run's end: a status of the README's table, and its line.
 //!
-//!     hostile PROGRAM FOLDER      FOLDER is a scratch folder
+//!     hostile PROGRAM FOLDER COUNT      FOLDER is a scratch folder
 //!
-//! Over each of two logs: every cut, every change of one byte, and a byte more. Then words, things in a log's place, and outputs
-//! that take nothing, or not all. It prints how many runs each part had, and the most memory that a run so far held at one time.
+//! Over each of two logs: every cut, every change of one byte, and a byte more; and COUNT times up to four changes by chance. Then
+//! COUNT logs whose records are well spelled, with vectors by chance. Then words, things in a log's place, and outputs that take
+//! nothing, or not all. It prints how many runs each part had, and the most memory that a run so far held at one time.
 //! It ends with 1 at the first run that ends otherwise, and after a part in which a run held more than `MOST_MEMORY`: the largest
-//! log here that has records is of 40 KB, and a file of 2^40 bytes is read up to its first bad record.
+//! log here that has records is of 40 KB, and a file of 2^40 bytes is read up to its first bad record. What comes by chance is the
+//! same each time.
 
 use std::collections::BTreeMap;
 use std::ffi::{c_int, c_long, OsString};
@@ -40,6 +42,33 @@ fn peak() -> c_long {
     let mut usage = Usage { times: [0; 4], peak: 0, rest: [0; 13] };
     assert_eq!(unsafe { getrusage(CHILDREN, &mut usage) }, 0, "getrusage");
     usage.peak
+}
+
+/// Draws by chance, the same ones for the same seed.
+struct Chance {
+    state: u64,
+}
+
+impl Chance {
+    fn new(seed: usize) -> Chance {
+        let mut chance = Chance { state: 88_172_645_463_325_252 ^ (seed as u64).wrapping_mul(0x9e37_79b9_7f4a_7c15) };
+        for _ in 0..8 {
+            chance.draw(1);
+        }
+        chance
+    }
+
+    /// A number below this one.
+    fn draw(&mut self, below: u64) -> u64 {
+        self.state ^= self.state << 13;
+        self.state ^= self.state >> 7;
+        self.state ^= self.state << 17;
+        (self.state >> 11) % below
+    }
+
+    fn place(&mut self, below: usize) -> usize {
+        self.draw(below as u64) as usize
+    }
 }
 
 /// A log as it grows.
@@ -136,6 +165,41 @@ fn all_kinds() -> Vec<u8> {
     log.finish()
 }
 
+/// HR.EMP with its ID and a unique EMAIL, then up to eight records with vectors by chance: of three transactions, three rows and three
+/// emails, so that most logs end at a bad record or an apply conflict, and some don't.
+fn by_chance(chance: &mut Chance) -> Vec<u8> {
+    let mut table = vec![8, 0, 0, 0, 1, 2, b'H', b'R', 3, b'E', b'M', b'P', 2];
+    table.extend_from_slice(&[2, b'I', b'D', 1, 0, 0, 0]);
+    table.extend_from_slice(&[5, b'E', b'M', b'A', b'I', b'L', 2, 0, 30, 1]);
+    table.extend_from_slice(&[1, 0, 1, 1, 1]);
+    let mut log = Log::new();
+    log.record(&[table, vec![9]]);
+    for _ in 0..1 + chance.draw(8) {
+        let ending = chance.draw(4) == 0;
+        let count = if ending { 1 } else { 1 + chance.draw(3) };
+        let vectors: Vec<Vec<u8>> = (0..count).map(|_| vector_by_chance(chance, ending)).collect();
+        log.record(&vectors);
+    }
+    log.finish()
+}
+
+fn vector_by_chance(chance: &mut Chance, ending: bool) -> Vec<u8> {
+    let sqn = 1 + chance.draw(3) as u32;
+    let id = number(0, chance.draw(3) as i64);
+    let mut email = || if chance.draw(4) == 0 { vec![1, 0] } else { text(1, 2, &[b'a' + chance.draw(3) as u8]) };
+    let (before, after) = (email(), email());
+    if ending {
+        return of_transaction(6 + u8::from(chance.draw(4) == 0), sqn, &[]);
+    }
+    match chance.draw(9) {
+        0..=2 => of_transaction(1, sqn, &[]),
+        3..=5 => change(2, sqn, &[0], &cells(&[id, after])),
+        6 => change(3, sqn, &cells(&[id, before]), &cells(&[after])),
+        7 => change(4, sqn, &cells(&[id, before]), &[0]),
+        _ => of_transaction(5, sqn, &[]),
+    }
+}
+
 /// T.A again: a transaction inserts 1,000 rows, whose lines are of about 15 KB.
 fn many_rows() -> Vec<u8> {
     let mut log = Log::new();
@@ -203,23 +267,46 @@ fn form(log: &[u8], number: usize) -> Option<Vec<u8>> {
     None
 }
 
-/// Runs all forms of a log, side by side; gives how often each status came.
-fn logs(program: &Path, folder: &Path, log: &[u8]) -> Result<BTreeMap<i32, usize>, String> {
+/// A log with one to four changes by chance: a byte written over, a piece left out, a piece that comes twice, or a byte more.
+fn changed(log: &[u8], chance: &mut Chance) -> Vec<u8> {
+    let mut bytes = log.to_vec();
+    for _ in 0..1 + chance.draw(4) {
+        let from = chance.place(bytes.len());
+        let to = (from + 1 + chance.place(24)).min(bytes.len());
+        match chance.draw(8) {
+            0 => drop(bytes.drain(from..to)),
+            1 => {
+                let piece = bytes[from..to].to_vec();
+                bytes.splice(to..to, piece);
+            }
+            2 => bytes.insert(from, chance.draw(256) as u8),
+            3 => bytes[from] = chance.draw(10) as u8,
+            _ => bytes[from] = chance.draw(256) as u8,
+        }
+        if bytes.is_empty() {
+            return bytes;
+        }
+    }
+    bytes
+}
+
+/// Runs the logs of all numbers from 0 on, side by side; gives how often each status came.
+fn logs(program: &Path, folder: &Path, log_of: impl Fn(usize) -> Option<Vec<u8>> + Sync) -> Result<BTreeMap<i32, usize>, String> {
     let next = AtomicUsize::new(0);
     let told: Mutex<Result<BTreeMap<i32, usize>, String>> = Mutex::new(Ok(BTreeMap::new()));
     thread::scope(|scope| {
         for worker in 0..thread::available_parallelism().map_or(1, |n| n.get()) {
-            let (next, told) = (&next, &told);
+            let (next, told, log_of) = (&next, &told, &log_of);
             scope.spawn(move || {
                 let room = room(folder, worker);
                 while told.lock().expect("no worker fails").is_ok() {
                     let number = next.fetch_add(1, Ordering::Relaxed);
-                    let Some(bytes) = form(log, number) else { return };
+                    let Some(bytes) = log_of(number) else { return };
                     fs::write(room.join("redo/log_1.srl"), bytes).expect("a log");
                     let output = run(program, &room, &["fold", "1"]);
                     let mut told = told.lock().expect("no worker fails");
                     if let Some(fault) = fault_of(&output) {
-                        *told = Err(format!("form {number}: {fault}"));
+                        *told = Err(format!("log {number}: {fault}"));
                     } else if let Ok(counts) = told.as_mut() {
                         *counts.entry(output.status.code().unwrap_or(-1)).or_insert(0) += 1;
                     }
@@ -257,23 +344,17 @@ fn words(program: &Path, folder: &Path) -> Result<usize, String> {
 /// So many lists of words by chance, of any bytes but 0.
 fn words_by_chance(program: &Path, folder: &Path, count: usize) -> Result<usize, String> {
     let room = room(folder, 0);
-    let mut state: u64 = 88_172_645_463_325_252;
-    let mut draw = move |below: u64| {
-        state ^= state << 13;
-        state ^= state >> 7;
-        state ^= state << 17;
-        (state >> 11) % below
-    };
+    let mut chance = Chance::new(0);
     let known = ["fold", "mine", "run", "load", "1", "2", "4294967295", "4294967296", "00", "-", "--", "fold 1", "\u{ff11}"];
     for number in 0..count {
         let mut words: Vec<OsString> = Vec::new();
-        for _ in 0..draw(5) {
-            if draw(2) == 0 {
-                words.push(known[draw(known.len() as u64) as usize].into());
+        for _ in 0..chance.draw(5) {
+            if chance.draw(2) == 0 {
+                words.push(known[chance.place(known.len())].into());
                 continue;
             }
-            let size = draw(70);
-            words.push(OsString::from_vec((0..size).map(|_| draw(255) as u8 + 1).collect()));
+            let size = chance.draw(70);
+            words.push(OsString::from_vec((0..size).map(|_| chance.draw(255) as u8 + 1).collect()));
         }
         let output = run(program, &room, &words);
         if let Some(fault) = fault_of(&output) {
@@ -360,22 +441,31 @@ fn outputs(program: &Path, folder: &Path) -> Result<usize, String> {
 }
 
 fn main() {
-    let args: Vec<PathBuf> = std::env::args_os().skip(1).map(PathBuf::from).collect();
-    let [program, folder] = &args[..] else {
-        panic!("hostile PROGRAM FOLDER");
+    let args: Vec<OsString> = std::env::args_os().skip(1).collect();
+    let [program, folder, count] = &args[..] else {
+        panic!("hostile PROGRAM FOLDER COUNT");
     };
+    let (program, folder) = (Path::new(program), Path::new(folder));
+    let count: usize = count.to_str().and_then(|count| count.parse().ok()).expect("COUNT is a number");
     let tell = |what: String| -> Result<(), String> {
         let peak = peak();
         println!("{what}; peak {:.1} MB", peak as f64 * 1024.0 / 1e6);
         if peak <= MOST_MEMORY { Ok(()) } else { Err(format!("a run held {peak} KiB")) }
     };
+    let told = |what: &str, counts: BTreeMap<i32, usize>| -> Result<(), String> {
+        let runs: usize = counts.values().sum();
+        let parts: Vec<String> = counts.iter().map(|(code, count)| format!("{count} with status {code}")).collect();
+        tell(format!("{what}: {runs} runs: {}", parts.join(", ")))
+    };
     let all = || -> Result<(), String> {
         for (name, log) in [("the first log", first()), ("a log of all kinds", all_kinds())] {
-            let counts = logs(program, folder, &log)?;
-            let runs: usize = counts.values().sum();
-            let told: Vec<String> = counts.iter().map(|(code, count)| format!("{count} with status {code}")).collect();
-            tell(format!("{name}, {} bytes: {runs} runs: {}", log.len(), told.join(", ")))?;
+            let size = log.len();
+            told(&format!("{name}, {size} bytes, each cut and each other byte"), logs(program, folder, |number| form(&log, number))?)?;
+            let by_chance = |number| (number < count).then(|| changed(&log, &mut Chance::new(number)));
+            told(&format!("{name}, changed by chance"), logs(program, folder, by_chance)?)?;
         }
+        let by_chance = |number| (number < count).then(|| by_chance(&mut Chance::new(number)));
+        told("records by chance", logs(program, folder, by_chance)?)?;
         tell(format!("words: {} runs", words(program, folder)?))?;
         tell(format!("words by chance: {} runs", words_by_chance(program, folder, 3000)?))?;
         tell(format!("outputs: {} runs", outputs(program, folder)?))?;
