@@ -59,7 +59,7 @@ named_first t ts d id is e =
     let k : Some t.row ≡ Some d = sym (ap (λ b. cond b (Some t.row) (table_of (definitions_of ts) id)) is) ∙ h in
     cc
 
-named_later : (t : Table) (ts : Tables) (d : TableRow) (id : ℕ) → (t.row.id == id) ≡ false → table_of (definitions_of (t ∷ ts)) id ≡ Some d → table_of (definitions_of ts) id ≡ Some d
+pub named_later : (t : Table) (ts : Tables) (d : TableRow) (id : ℕ) → (t.row.id == id) ≡ false → table_of (definitions_of (t ∷ ts)) id ≡ Some d → table_of (definitions_of ts) id ≡ Some d
 named_later t ts d id other e = sym (ap (λ b. cond b (Some t.row) (table_of (definitions_of ts) id)) other) ∙ e
 
 pub named_id : (ts : List TableRow) (id : ℕ) (d : TableRow) → table_of ts id ≡ Some d → d.id ≡ id

@@ -15,3 +15,4 @@ pub mod Writing
 pub mod Whole
 pub mod Logged
 pub mod Untouched
+pub mod Touched

@@ -37,7 +37,7 @@ chosen : {A B : Type 0} (f : A → B) (b : Bool) (x : A) (rest : Option A) → o
 chosen f true x rest = refl
 chosen f false x rest = refl
 
-written_slot : (es : Slots) (q : Key) → ArePrimary es → written_at (writes_of es) q ≡ slot_at es q
+pub written_slot : (es : Slots) (q : Key) → ArePrimary es → written_at (writes_of es) q ≡ slot_at es q
 written_slot [] q p = refl
 written_slot (e ∷ es) q p =
     chosen (λ (w : Write). w.row) (is_eq (key_cmp (written_key (write_of e)) q)) (write_of e) (find (λ w. is_eq (key_cmp (written_key w) q)) (writes_of es))
@@ -185,15 +185,12 @@ module _ (t : TableRow) (c : Change) (keys : has_bad_keys t ≡ false) (form : i
       let a = accepted t c accept in
       cell_there c.old p (old_has t c c.op p op r a.within_old a.shape a.logged has (inside p has))
 
-  old_key_out : c.op ≢ Insert → columns_rise 0 c.old ≡ true → (q : Key) → list_any (λ k. is_eq (key_cmp k q)) (conflict_keys_in t c) ≡ false → is_eq (key_cmp (row_key t.id (logged_key t c.old)) q) ≡ false
-  old_key_out op r q out = old_out t c q form out (logged_key t c.old) (all_there (cell_at c.old) (primary_of t) (old_there op r))
+  -- the old cells give the logged key, and those after the change the new row's
+  pub logged_given : c.op ≢ Insert → columns_rise 0 c.old ≡ true → all_of (map (cell_at c.old) (primary_of t)) ≡ Some (logged_key t c.old)
+  logged_given op r = all_there (cell_at c.old) (primary_of t) (old_there op r)
 
-  pub delete_only : (old new : Slots) (key : Key) → c.op ≢ Insert → columns_rise 0 c.old ≡ true → key ≡ row_key t.id (logged_key t c.old) → Sets old new key None → SlotsOnly (conflict_keys_in t c) old new
-  delete_only old new key op r named sets q out =
-      sets q ∙ ap (λ b. cond b (Some None) (slot_at old q)) (ap (λ (k : Key). is_eq (key_cmp k q)) named ∙ old_key_out op r q out)
-
-  pub insert_only : (old new : Slots) → c.op ≡ Insert → columns_rise 0 c.new ≡ true → SlotsOnly (keys_put None (row_key t.id (primary_key t (cell_values c.new)))) old new → SlotsOnly (conflict_keys_in t c) old new
-  insert_only old new op r only q out =
+  pub insert_given : c.op ≡ Insert → columns_rise 0 c.new ≡ true → all_of (map (cell_at c.new) (primary_of t)) ≡ Some (primary_key t (cell_values c.new))
+  insert_given op r =
       let a = accepted t c accept in
       let count = insert_count t c op accept in
       let each : (p : ℕ) → has_column (primary_of t) p ≡ true → cell_at c.new p ≡ Some (value_in (cell_values c.new) p) =
@@ -201,22 +198,34 @@ module _ (t : TableRow) (c : Change) (keys : has_bad_keys t ≡ false) (form : i
       let low = inside p has in
       let number : p ≡ 0 + p = omega arith in
       ap (cell_at c.new) number ∙ cell_value 0 (length t.columns) p c.new r a.within (omega (arith, count)) (omega (arith, count, low)) in
-      only q
-      (ap (λ b. b || false)
-      (new_out t c q form out Insert op (primary_key t (cell_values c.new)) (all_values (cell_at c.new) (cell_values c.new) (primary_of t) each)))
+      all_values (cell_at c.new) (cell_values c.new) (primary_of t) each
+
+  pub update_given : (row : List Value) → c.op ≢ Insert → columns_rise 0 c.old ≡ true → difference row c.old ≡ None → all_of (map (cell_at (c.new ++ c.old)) (primary_of t)) ≡ Some (primary_key t (with_cells t row c.new))
+  update_given row op r d =
+      let each : (p : ℕ) → has_column (primary_of t) p ≡ true → cell_at (c.new ++ c.old) p ≡ Some (value_in (with_cells t row c.new) p) =
+      λ p has.
+      let number : p ≡ 0 + p = omega arith in
+      joined_value c.new c.old p (value_in row p) (logged_value row c.old p d (old_there op r p has))
+      ∙ ap (λ v. Some v)
+      (ap (λ column. unwrap_or (cell_at c.new column) (value_in row column)) number
+      ∙ sym (number_at (λ column. unwrap_or (cell_at c.new column) (value_in row column)) 0 p t.columns (inside p has))) in
+      all_values (cell_at (c.new ++ c.old)) (with_cells t row c.new) (primary_of t) each
+
+  old_key_out : c.op ≢ Insert → columns_rise 0 c.old ≡ true → (q : Key) → list_any (λ k. is_eq (key_cmp k q)) (conflict_keys_in t c) ≡ false → is_eq (key_cmp (row_key t.id (logged_key t c.old)) q) ≡ false
+  old_key_out op r q out = old_out t c q form out (logged_key t c.old) (logged_given op r)
+
+  pub delete_only : (old new : Slots) (key : Key) → c.op ≢ Insert → columns_rise 0 c.old ≡ true → key ≡ row_key t.id (logged_key t c.old) → Sets old new key None → SlotsOnly (conflict_keys_in t c) old new
+  delete_only old new key op r named sets q out =
+      sets q ∙ ap (λ b. cond b (Some None) (slot_at old q)) (ap (λ (k : Key). is_eq (key_cmp k q)) named ∙ old_key_out op r q out)
+
+  pub insert_only : (old new : Slots) → c.op ≡ Insert → columns_rise 0 c.new ≡ true → SlotsOnly (keys_put None (row_key t.id (primary_key t (cell_values c.new)))) old new → SlotsOnly (conflict_keys_in t c) old new
+  insert_only old new op r only q out = only q (ap (λ b. b || false) (new_out t c q form out Insert op (primary_key t (cell_values c.new)) (insert_given op r)))
 
   pub update_only : (old new : Slots) (key : Key) (row after : List Value) → c.op ≢ Insert → c.op ≡ Update → columns_rise 0 c.old ≡ true → key ≡ row_key t.id (logged_key t c.old) → after ≡ with_cells t row c.new →
       difference row c.old ≡ None → SlotsOnly (keys_put (Some key) (row_key t.id (primary_key t after))) old new → SlotsOnly (conflict_keys_in t c) old new
   update_only old new key row after not_insert op r named made d only q out =
-      let each : (p : ℕ) → has_column (primary_of t) p ≡ true → cell_at (c.new ++ c.old) p ≡ Some (value_in (with_cells t row c.new) p) =
-      λ p has.
-      let number : p ≡ 0 + p = omega arith in
-      joined_value c.new c.old p (value_in row p) (logged_value row c.old p d (old_there not_insert r p has))
-      ∙ ap (λ v. Some v)
-      (ap (λ column. unwrap_or (cell_at c.new column) (value_in row column)) number
-      ∙ sym (number_at (λ column. unwrap_or (cell_at c.new column) (value_in row column)) 0 p t.columns (inside p has))) in
       let gone : is_eq (key_cmp key q) ≡ false = ap (λ (k : Key). is_eq (key_cmp k q)) named ∙ old_key_out not_insert r q out in
       let comes : is_eq (key_cmp (row_key t.id (primary_key t after)) q) ≡ false =
       ap (λ (values : List Value). is_eq (key_cmp (row_key t.id (primary_key t values)) q)) made
-      ∙ new_out t c q form out Update op (primary_key t (with_cells t row c.new)) (all_values (cell_at (c.new ++ c.old)) (with_cells t row c.new) (primary_of t) each) in
+      ∙ new_out t c q form out Update op (primary_key t (with_cells t row c.new)) (update_given row not_insert r d) in
       only q ((λ i. gone i || (comes i || false)))

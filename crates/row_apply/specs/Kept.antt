@@ -1,7 +1,7 @@
 -- What an overlay keeps: its rows by their keys, and an index of their unique values.
 -- A table is indexed by the columns of its keys as they were when it was. An index says of each row that is there under
 -- which key it stands; it may also have values that no row has any more, so what it answers is looked at again.
-use Rattle.std.specs.Prelude.{◌≡◌, ℕ, ◌+◌, List, [], ◌∷◌, Bool, false, cond, drop, ◌==◌, if◌then◌else◌, Option, Some, None, slice_get}
+use Rattle.std.specs.Prelude.{◌≡◌, ℕ, ◌+◌, List, [], ◌∷◌, Bool, false, cond, drop, ◌==◌, if◌then◌else◌, Option, Some, None, IsSome, slice_get}
 use Rattle.std.specs.List.{list_any, AllByRecursion}
 use Rattle.std.specs.List.Sorted.{IsStrictlySortedBy}
 use Rattle.std.specs.Ordering.{is_eq, nat_cmp}
@@ -111,6 +111,10 @@ ChangesOnly table old new = (q : Key) → (q.table == table) ≡ false → slot_
 -- what was written under other keys than these is as it was
 abbrev pub SlotsOnly : List Key → Slots → Slots → Type 0
 SlotsOnly keys old new = (q : Key) → list_any (λ k. is_eq (key_cmp k q)) keys ≡ false → slot_at new q ≡ slot_at old q
+
+-- something was written under each row key among these
+abbrev pub AreWritten : List Key → Slots → Type 0
+AreWritten keys es = AllByRecursion (λ k. k.index ≡ 0 → IsSome (slot_at es k)) keys
 
 -- the key of the row that goes, if one does, and that of the one that comes
 abbrev pub keys_put : Option Key → Key → List Key

@@ -1,7 +1,7 @@
 -- Written rows in place of those beneath: the tables after a list of writes, each of which puts a row in the place of the
 -- one with its primary key, or takes that one away. This project's own.
 use Rattle.std.specs.Prelude.{◌≡◌, ℕ, List, [], ◌∷◌, Bool, false, map, not, ◌==◌, if◌then◌else◌, Option, Some, None, is_some}
-use Rattle.std.specs.List.{find, list_all, list_any}
+use Rattle.std.specs.List.{find, list_all, list_any, AllByRecursion}
 use Rattle.std.specs.Option.{option_map}
 use Rattle.std.specs.Ordering.{eq_by_cmp, is_eq}
 use Rattle.std.specs.FinMap.Entries as entries
@@ -11,6 +11,7 @@ use Rattle.rl_value.specs.Order.{row_cmp, key_cmp, keys_rise}
 use Rattle.redo_vec.specs.declared.table.TableRow.{TableRow}
 use Rattle.redo_spec.specs.Dictionary.{table_of}
 use Rattle.redo_spec.specs.Tables.{Rows, Table, Tables}
+use Rattle.redo_spec.specs.Work.{row_at}
 use Rattle.row_apply.specs.declared.writes.Write.{Write}
 
 -- the rows with this one under its key, or with none there
@@ -50,3 +51,7 @@ written_at ws q = option_map (λ w. w.row) (find (λ w. is_eq (key_cmp (written_
 -- what was written under other keys than these is as it was
 abbrev pub WritesOnly : List Key → List Write → List Write → Type 0
 WritesOnly keys old new = (q : Key) → list_any (λ k. is_eq (key_cmp k q)) keys ≡ false → written_at new q ≡ written_at old q
+
+-- each row key among these was written: there stands what the tables have there, the row or that it is gone
+abbrev pub WritesAll : List Key → Tables → List Write → Type 0
+WritesAll keys tables ws = AllByRecursion (λ k. k.index ≡ 0 → written_at ws k ≡ Some (row_at tables k)) keys

@@ -8,7 +8,7 @@ ghost use Rattle.redo_spec.specs.Effect.{add_row};
 ghost use Rattle.redo_spec.specs.Tables.{primary_key, definitions_of};
 ghost use Rattle.rl_value.specs.Order.{row_cmp};
 ghost use Rattle.row_apply.specs.Adding.{minus, values_of, goes, table_without, table_with, IsReady};
-ghost use Rattle.row_apply.specs.Kept.{row_key, rows_seen, table_seen, ChangesOnly, SlotsOnly, keys_put, IsOf};
+ghost use Rattle.row_apply.specs.Kept.{row_key, rows_seen, table_seen, ChangesOnly, SlotsOnly, AreWritten, keys_put, IsOf};
 ghost use Rattle.row_apply.specs.KeptIn.{slots_of, IsKept};
 ghost use Rattle.row_apply.specs.Outcomes.{OnMiss};
 ghost use Rattle.row_apply.specs.Soundness.{AreSound, AreSoundRows};
@@ -98,6 +98,7 @@ pub fn add<R: Rows>(
     ensures kept { IsKept over.new }
     ensures others { ChangesOnly table.now.id (slots_of over.old) (slots_of over.new) }
     ensures only { OnOk result (SlotsOnly (keys_put gone (row_key table.now.id (primary_key table.now row))) (slots_of over.old) (slots_of over.new)) }
+    ensures written { OnOk result (AreWritten (keys_put gone (row_key table.now.id (primary_key table.now row))) (slots_of over.new)) }
     ensures sound { AreSoundRows table.now (rows_seen (R.tables base.now) (slots_of over.new) table.now) }
 {
     match over.index_table(table) {

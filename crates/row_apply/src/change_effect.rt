@@ -11,9 +11,9 @@ ghost use Rattle.redo_spec.specs.Effect.{effect as effect_of, effect_on, take_ro
 ghost use Rattle.redo_spec.specs.Tables.{definitions_of};
 ghost use Rattle.redo_vec.specs.declared.change.Op.TheVariants.{Insert, Update, Delete};
 ghost use Rattle.row_apply.specs.Adding.{CanChange};
-ghost use Rattle.row_apply.specs.Kept.{row_key, rows_seen, table_seen, ChangesOnly, SlotsOnly};
+ghost use Rattle.row_apply.specs.Kept.{row_key, rows_seen, table_seen, ChangesOnly, SlotsOnly, AreWritten};
 ghost use Rattle.row_apply.specs.KeptIn.{slots_of, IsKept};
-ghost use Rattle.row_apply.specs.Overlaid.{overlaid, are_of, WritesOnly};
+ghost use Rattle.row_apply.specs.Overlaid.{overlaid, are_of, WritesOnly, WritesAll};
 ghost use Rattle.row_apply.specs.Outcomes.{OnMiss};
 ghost use Rattle.row_apply.specs.Soundness.{AreSound, AreSoundRows};
 
@@ -42,6 +42,7 @@ fn insert<R: Rows>(
     ensures kept { IsKept over.new }
     ensures others { ChangesOnly table.now.id (slots_of over.old) (slots_of over.new) }
     ensures only { OnOk result (SlotsOnly (conflict_keys_in table.now change.now) (slots_of over.old) (slots_of over.new)) }
+    ensures written { OnOk result (AreWritten (conflict_keys_in table.now change.now) (slots_of over.new)) }
     ensures sound { AreSoundRows table.now (rows_seen (R.tables base.now) (slots_of over.new) table.now) }
 {
     // The cells rise by their columns, so those of all columns are the row in its order.
@@ -82,6 +83,7 @@ fn update<R: Rows>(
     ensures kept { IsKept over.new }
     ensures others { ChangesOnly table.now.id (slots_of over.old) (slots_of over.new) }
     ensures only { OnOk result (SlotsOnly (conflict_keys_in table.now change.now) (slots_of over.old) (slots_of over.new)) }
+    ensures written { OnOk result (AreWritten (conflict_keys_in table.now change.now) (slots_of over.new)) }
     ensures sound { AreSoundRows table.now (rows_seen (R.tables base.now) (slots_of over.new) table.now) }
 {
     let Ok(key) = old_primary_key(over, table, change) else {
@@ -105,12 +107,14 @@ fn delete<R: Rows>(
 ) -> Result<(), EffectFault>
     requires can { CanChange (R.tables base.now) over.old table.now change.now }
     requires op { change.now.op ≢ Insert }
+    requires delete { change.now.op ≡ Delete }
     ensures done { OnOk result (effect_on (table_seen (R.tables base.now) (slots_of over.old) table.now) Delete change.now.old change.now.new ≡ Ok (table_seen (R.tables base.now) (slots_of over.new) table.now)) }
     ensures miss { OnMiss result (λ miss. effect_on (table_seen (R.tables base.now) (slots_of over.old) table.now) Delete change.now.old change.now.new ≡ Err miss) }
     ensures unchanged { OnErr result (slots_of over.new ≡ slots_of over.old) }
     ensures kept { IsKept over.new }
     ensures others { ChangesOnly table.now.id (slots_of over.old) (slots_of over.new) }
     ensures only { OnOk result (SlotsOnly (conflict_keys_in table.now change.now) (slots_of over.old) (slots_of over.new)) }
+    ensures written { OnOk result (AreWritten (conflict_keys_in table.now change.now) (slots_of over.new)) }
     ensures sound { AreSoundRows table.now (rows_seen (R.tables base.now) (slots_of over.new) table.now) }
 {
     let Ok(key) = old_primary_key(over, table, change) else {
@@ -139,6 +143,7 @@ fn change_rows<R: Rows>(
     ensures kept { IsKept over.new }
     ensures others { ChangesOnly table.now.id (slots_of over.old) (slots_of over.new) }
     ensures only { OnOk result (SlotsOnly (conflict_keys_in table.now change.now) (slots_of over.old) (slots_of over.new)) }
+    ensures written { OnOk result (AreWritten (conflict_keys_in table.now change.now) (slots_of over.new)) }
     ensures sound { AreSoundRows table.now (rows_seen (R.tables base.now) (slots_of over.new) table.now) }
 {
     match change.op {
@@ -166,6 +171,7 @@ pub fn effect<R: Rows>(
     ensures sound { AreSound (overlaid (R.tables base.now) over.new) }
     ensures of_tables { IsTrue (are_of dict.now.tables over.old) → IsTrue (are_of dict.now.tables over.new) }
     ensures only { OnOk result (WritesOnly (conflict_keys dict.now.tables change.now) over.old over.new) }
+    ensures written { OnOk result (WritesAll (conflict_keys dict.now.tables change.now) (overlaid (R.tables base.now) over.new) over.new) }
 {
     let Some(table) = dict.def(change.table) else {
         unreachable!()

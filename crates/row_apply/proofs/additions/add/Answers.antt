@@ -4,6 +4,7 @@ use Rattle.redo_spec.specs.Tables.{primary_key}
 use Rattle.row_apply.specs.Kept.{Slots, Puts, row_key}
 use Rattle.row_apply.proofs.Seeing.{one_live}
 use Rattle.row_apply.proofs.Joining.{free_among, add_done, add_sound}
+use Rattle.row_apply.proofs.Touched.{puts_written}
 use Rattle.row_apply.proofs.Untouched.{puts_only}
 use Rattle.row_apply.proofs.additions.add.Goals as goal
 
@@ -30,3 +31,8 @@ returns-in-Ok-put_row-clause-only g c =
     puts_only c.args.over.now.rows.entries c.put_row.new.self.rows.entries c.args.gone key c.args.row
     (subst (λ (es : Slots). Puts es c.put_row.new.self.rows.entries c.args.gone key c.args.row) c.index_table.ensures.slots
     (subst (λ (k : Key). Puts c.index_table.new.self.rows.entries c.put_row.new.self.rows.entries c.args.gone k c.args.row) c.in_ok-key.ensures.key c.in-Ok-put_row.ensures.put))
+
+pub returns-in-Ok-put_row-clause-written : goal.returns-in-Ok-put_row-clause-written
+returns-in-Ok-put_row-clause-written g c =
+    puts_written c.index_table.new.self.rows.entries c.put_row.new.self.rows.entries c.args.gone (row_key c.args.table.now.id (primary_key c.args.table.now c.args.row)) c.args.row
+    (subst (λ (k : Key). Puts c.index_table.new.self.rows.entries c.put_row.new.self.rows.entries c.args.gone k c.args.row) c.in_ok-key.ensures.key c.in-Ok-put_row.ensures.put)

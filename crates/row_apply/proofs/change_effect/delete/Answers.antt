@@ -5,6 +5,7 @@ use Rattle.rl_value.specs.Order.{row_cmp}
 use Rattle.redo_spec.specs.Effect.{logged_key, difference}
 use Rattle.row_apply.specs.Kept.{rows_seen}
 use Rattle.row_apply.proofs.Joining.{take_done, take_sound}
+use Rattle.row_apply.proofs.Touched.{delete_written}
 use Rattle.row_apply.proofs.Untouched.{delete_only}
 use Rattle.row_apply.proofs.change_effect.delete.Goals as goal
 
@@ -26,3 +27,8 @@ pub returns-in-Ok-take_row-clause-only : goal.returns-in-Ok-take_row-clause-only
 returns-in-Ok-take_row-clause-only g c =
     delete_only c.args.table.now c.args.change.now c.requires.can.keys c.requires.can.form c.requires.can.accepted c.args.over.now.rows.entries c.take_row.new.self.rows.entries c.in-Ok.key c.requires.op c.cells.ensures.rising c.in-Ok.ensures
     c.in-Ok-take_row.ensures.set
+
+pub returns-in-Ok-take_row-clause-written : goal.returns-in-Ok-take_row-clause-written
+returns-in-Ok-take_row-clause-written g c =
+    delete_written c.args.table.now c.args.change.now c.requires.can.keys c.requires.can.form c.requires.can.accepted c.take_row.new.self.rows.entries c.args.over.now.rows.entries c.in-Ok.key c.requires.op c.requires.delete
+    c.cells.ensures.rising c.in-Ok.ensures c.in-Ok-take_row.ensures.set

@@ -8,6 +8,7 @@ use Rattle.row_apply.specs.Soundness.{AreSound}
 use Rattle.row_apply.specs.Written.{writes_of}
 use Rattle.row_apply.proofs.Keeping.{on_ok, on_miss}
 use Rattle.row_apply.proofs.Whole.{can_change, all_done, all_missed, all_sound, all_of}
+use Rattle.row_apply.proofs.Touched.{writes_all}
 use Rattle.row_apply.proofs.Untouched.{writes_only}
 use Rattle.row_apply.proofs.change_effect.effect.Goals as goal
 
@@ -53,3 +54,9 @@ returns-clause-only g c =
     (λ only. subst (λ (ws : List Write). WritesOnly (conflict_keys c.args.dict.now.tables c.args.change.now) ws (writes_of c.change_rows.new.over.rows.entries)) c.over.view_is
     (writes_only c.args.dict.now.tables c.in-Some.table.now c.args.change.now c.over.inside.written.rows.entries c.change_rows.new.over.rows.entries c.in-Some.ensures.found c.over.invariant.slots.primary c.change_rows.ensures.kept.slots.primary only))
     c.change_rows.ensures.only
+
+pub returns-clause-written : goal.returns-clause-written
+returns-clause-written g c =
+    on_ok c.change_rows.result
+    (writes_all (g.R.Rows.tables c.args.base.now) c.args.dict.now.tables c.in-Some.table.now c.args.change.now c.change_rows.new.over.rows.entries c.requires.definitions c.in-Some.ensures.found c.change_rows.ensures.kept.slots)
+    c.change_rows.ensures.written
