@@ -16,3 +16,4 @@ pub mod Whole
 pub mod Logged
 pub mod Untouched
 pub mod Touched
+pub mod Staying
