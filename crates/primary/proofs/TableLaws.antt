@@ -16,9 +16,9 @@ use Rattle.redo_vec.specs.declared.table.TableRow.{TableRow}
 use Rattle.redo_spec.specs.Dictionary.{table_of}
 use Rattle.redo_spec.specs.Tables.{Rows, RowsById, Table, Tables, rows_by, assembled, definitions_of, owner_in, row_count}
 use Rattle.row_apply.specs.declared.writes.Write.{Write}
-use Rattle.redo_spec.specs.Work.{rows_of, row_at}
+use Rattle.redo_spec.specs.Work.{rows_of, row_at, write_row}
 use Rattle.row_apply.specs.Found.{key_columns, owner_of}
-use Rattle.row_apply.specs.Overlaid.{write_row, rows_after, overlaid}
+use Rattle.row_apply.specs.Overlaid.{rows_after, overlaid}
 use Rattle.primary.specs.ById.{table_in, with_row, put_beside, without_row, take_from, written_beside, written_all}
 use Rattle.primary.proofs.MapLemmas.{rows_by_is, find_is_lookup, put_is_insert}
 

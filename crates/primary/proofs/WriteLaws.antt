@@ -12,8 +12,9 @@ use Rattle.rl_value.specs.Order.{row_cmp, row_total, key_cmp, key_total, keys_ri
 use Rattle.redo_vec.specs.declared.table.TableRow.{TableRow}
 use Rattle.redo_spec.specs.Dictionary.{table_of, ids_rise}
 use Rattle.redo_spec.specs.Tables.{Rows, RowsById, rows_by, assembled, row_count}
+use Rattle.redo_spec.specs.Work.{write_row}
 use Rattle.row_apply.specs.declared.writes.Write.{Write}
-use Rattle.row_apply.specs.Overlaid.{write_row, written_key, writes_rise, overlaid, are_of}
+use Rattle.row_apply.specs.Overlaid.{written_key, writes_rise, overlaid, are_of}
 use Rattle.row_apply.specs.Soundness.{AreSound, AreSoundRows}
 use Rattle.row_apply.proofs.Orders.{row_is, row_self, row_turned, key_self}
 use Rattle.row_apply.proofs.Slots.{find_write, sorted_write}

@@ -33,14 +33,14 @@ row_at tables k = entries.find row_cmp k.values (rows_of tables k.table)
 abbrev pub writes_of : List Key → Tables → List Written
 writes_of keys tables = map (λ k. (k, row_at tables k)) (filter (λ k. k.index == 0) keys)
 
--- the rows with this one in its place, or without it
-abbrev pub put_row : Key → Option (List Value) → Rows → Rows
-put_row k None rows = entries.where_key row_cmp (λ x. not (eq_by_cmp row_cmp k.values x)) rows
-put_row k (Some row) rows = entries.put row_cmp k.values row rows
+-- the rows with this one under its key, or with none there
+abbrev pub write_row : Rows → List Value → Option (List Value) → Rows
+write_row rows key None = entries.where_key row_cmp (λ k. not (eq_by_cmp row_cmp key k)) rows
+write_row rows key (Some row) = entries.put row_cmp key row rows
 
 -- a table with what was written to it in place
 abbrev pub put_in_table : Written → Table → Table
-put_in_table (k, row) t = if t.row.id == k.table then record t { rows = put_row k row t.rows } else t
+put_in_table (k, row) t = if t.row.id == k.table then record t { rows = write_row t.rows k.values row } else t
 
 -- the tables with what was written in place
 abbrev pub put_written : Written → Tables → Tables

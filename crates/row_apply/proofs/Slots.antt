@@ -20,7 +20,8 @@ use Rattle.rl_value.specs.declared.key.Key.{Key}
 use Rattle.rl_value.specs.Order.{row_cmp, key_cmp, row_total, key_total}
 use Rattle.redo_spec.specs.Tables.{Rows}
 use Rattle.row_apply.specs.Adding.{minus, values_of, goes}
-use Rattle.row_apply.specs.Overlaid.{write_row, rows_after}
+use Rattle.redo_spec.specs.Work.{write_row}
+use Rattle.row_apply.specs.Overlaid.{rows_after}
 use Rattle.row_apply.specs.Written.{writes_of}
 use Rattle.row_apply.specs.Kept.{Slots, row_key, slot_at, ArePrimary, AreSlots, Sets, Puts, goes_at, ChangesOnly, IsOf}
 use Rattle.row_apply.proofs.Orders.{row_same, row_turned, key_is, key_turned, row_keys_tie}

@@ -12,7 +12,7 @@ use Rattle.redo_spec.specs.ChangeForm.{change_fault_in}
 use Rattle.redo_spec.specs.Dictionary.{table_of, primary_of, has_bad_keys}
 use Rattle.redo_spec.specs.Tables.{Rows, Table, Tables, values_at, primary_key, definitions_of}
 use Rattle.row_apply.specs.declared.written.Written.{Written}
-use Rattle.row_apply.specs.Overlaid.{write_row}
+use Rattle.redo_spec.specs.Work.{write_row}
 use Rattle.row_apply.specs.Kept.{Slots, Owners, row_key, slot_at, owner_at, indexed_at, IsLive, rows_seen}
 use Rattle.row_apply.specs.KeptIn.{slots_of, indexed_of, IsKept}
 use Rattle.row_apply.specs.Soundness.{AreSoundRows, AreSound}

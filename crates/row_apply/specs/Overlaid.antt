@@ -11,13 +11,8 @@ use Rattle.rl_value.specs.Order.{row_cmp, key_cmp, keys_rise}
 use Rattle.redo_vec.specs.declared.table.TableRow.{TableRow}
 use Rattle.redo_spec.specs.Dictionary.{table_of}
 use Rattle.redo_spec.specs.Tables.{Rows, Table, Tables}
-use Rattle.redo_spec.specs.Work.{row_at}
+use Rattle.redo_spec.specs.Work.{row_at, write_row}
 use Rattle.row_apply.specs.declared.writes.Write.{Write}
-
--- the rows with this one under its key, or with none there
-abbrev pub write_row : Rows → List Value → Option (List Value) → Rows
-write_row rows key None = entries.where_key row_cmp (λ k. not (eq_by_cmp row_cmp key k)) rows
-write_row rows key (Some row) = entries.put row_cmp key row rows
 
 -- the rows of a table after those of the writes that are of it, one after the other
 abbrev pub rows_after : ℕ → List Write → Rows → Rows

@@ -15,7 +15,8 @@ ghost use Rattle.redo_spec.specs.ConflictKeys.{is_null};
 ghost use Rattle.redo_spec.specs.Dictionary.{uniques_of};
 ghost use Rattle.redo_spec.specs.Effect.{effect};
 ghost use Rattle.redo_spec.specs.Tables.{Rows, Tables, empty_tables, definitions_of, owner_in, values_at};
-ghost use Rattle.row_apply.specs.Overlaid.{overlaid, write_row};
+ghost use Rattle.redo_spec.specs.Work.{write_row};
+ghost use Rattle.row_apply.specs.Overlaid.{overlaid};
 ghost use Rattle.row_apply.specs.Soundness.{AreSound, AreSoundRows};
 
 /// Tables without rows are sound.
