@@ -45,10 +45,13 @@ open_fault s x = first_fault ((not (is_open s x || is_passed_over s x), faults.N
 abbrev pub nothing_survives : Standing → Xid → Bool
 nothing_survives s x = list_any (λ t. same_xid t.xid x && is_empty t.keys) s.active
 
+-- the fault of one more change, where so many changes of open transactions survive
+abbrev pub count_fault : ℕ → Option LawFault
+count_fault survivors = first_fault ((nat_le open_limit survivors, faults.OpenLimit) ∷ [])
+
 -- the faults of a change of an open transaction
 abbrev pub made_fault : Standing → Change → Option LawFault
-made_fault s c = option_or (change_fault s.dictionary.tables c)
-    (option_or (lock_fault s c) (first_fault ((nat_le open_limit (survivor_count s), faults.OpenLimit) ∷ [])))
+made_fault s c = option_or (change_fault s.dictionary.tables c) (option_or (lock_fault s c) (count_fault (survivor_count s)))
 
 abbrev pub unless : Bool → Option LawFault → Option LawFault
 unless true fault = None

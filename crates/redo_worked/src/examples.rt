@@ -1,15 +1,18 @@
-//! More worked examples: folds over rows, runs behind a mark, registered logs, and pairs of causes of which the first counts.
+//! More worked examples: folds over rows, runs behind a mark, registered logs, the most open changes, and pairs of causes of which
+//! the first counts.
 //!
 //! Each function here has an empty body; its clauses hold by computing both sides. The logs are those of `specs/Examples.antt`, and of
 //! `specs/Worked.antt` of `redo_spec`.
-ghost use Rattle.std.specs.Prelude.{◌≡◌, [], ◌∷◌, length, take, drop, slice_set, codes, Some};
+ghost use Rattle.std.specs.Prelude.{◌≡◌, [], ◌∷◌, length, take, drop, slice_set, codes, Some, None, ◌^◌, ◌-◌, ◌+◌};
 ghost use Rattle.rl_value.specs.declared.cause.Cause.TheVariants.{Cut};
 ghost use Rattle.rl_value.specs.declared.cause.CutFault.TheVariants.{Truncated};
+ghost use Rattle.rl_value.specs.declared.cause.LawFault.TheVariants.{OpenLimit};
 ghost use Rattle.rl_value.specs.declared.value.Value.TheVariants.{Null, Text};
 ghost use Rattle.rl_value.specs.declared.verdict.Stop.TheVariants.{Drained, Gap, Malformed};
 ghost use Rattle.rl_value.specs.declared.verdict.Verdict.TheVariants.{RowLimit};
 ghost use Rattle.redo_vec.specs.declared.vector.Vector.TheVariants.{Change as OfChange, Commit, DictEnd, Table};
 ghost use Rattle.redo_spec.specs.History.{commit_count};
+ghost use Rattle.redo_spec.specs.Law.{count_fault};
 ghost use Rattle.redo_spec.specs.Lines.{words, verdict_text};
 ghost use Rattle.redo_spec.specs.Mark.{MarkFits, resumed};
 ghost use Rattle.redo_spec.specs.Redo.{redo_from};
@@ -65,6 +68,13 @@ pub fn first_log_is_changed()
     ensures rolled_back { fold_bytes 1 (Some (slice_set first_bytes 137 7)) ≡ codes "APPLIED_SCN 99" ∷ codes "TABLE T.A 0" ∷ codes "END 99 0 DRAINED" ∷ [] }
     ensures header_alone { fold_bytes 1 (Some (take 40 first_bytes)) ≡ codes "APPLIED_SCN 99" ∷ codes "END 99 0 MALFORMED 1 TRUNCATED" ∷ [] }
     ensures dictionary_alone { fold_bytes 1 (Some (take 75 first_bytes)) ≡ codes "APPLIED_SCN 99" ∷ codes "TABLE T.A 0" ∷ codes "END 99 0 MALFORMED 2 TRUNCATED" ∷ [] }
+{}
+
+/// As many changes of open transactions as may survive together, and one more.
+pub fn open_changes_have_a_limit()
+    ensures below { count_fault (2 ^ 19 - 1) ≡ None }
+    ensures at { count_fault (2 ^ 19) ≡ Some OpenLimit }
+    ensures past { count_fault (2 ^ 19 + 1) ≡ Some OpenLimit }
 {}
 
 /// Pairs of causes of which the first counts: of whole records, of the dictionary, of a change; and which key is the least.
