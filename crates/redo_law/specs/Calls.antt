@@ -11,7 +11,7 @@ use Rattle.redo_vec.specs.declared.vector.Vector.TheVariants.{Start, Change as O
 use Rattle.redo_spec.specs.declared.header.Header.{Header}
 use Rattle.redo_spec.specs.History.{Entry, same_xid}
 use Rattle.redo_spec.specs.Law.{vector_fault, whole_fault}
-use Rattle.redo_spec.specs.Standing.{OpenTxn, Standing, standing_after, entered}
+use Rattle.redo_spec.specs.Standing.{OpenTxn, Standing, is_open, standing_after, entered}
 use Rattle.redo_law.specs.declared.start.LawStart.{LawStart}
 use Rattle.redo_law.specs.declared.fault.AdmitFault.{AdmitFault}
 use Rattle.redo_law.specs.declared.fault.AdmitFault.TheVariants as faults
@@ -53,15 +53,16 @@ OnWant (Ok done) P = ⊤
 OnWant (Err (faults.Law fault)) P = ⊤
 OnWant (Err faults.Memory) P = P
 
--- a vector that takes memory
-abbrev pub takes_memory : Vector → Bool
-takes_memory (Start x) = true
-takes_memory (OfChange c) = true
-takes_memory (Undo x) = false
-takes_memory (Commit x) = false
-takes_memory (Rollback x) = false
-takes_memory (Table t) = true
-takes_memory DictEnd = false
+-- A vector that takes memory behind this standing. A change whose transaction is not open takes none: it is refused, or
+-- passed over.
+abbrev pub takes_memory : Standing → Vector → Bool
+takes_memory s (Start x) = true
+takes_memory s (OfChange c) = is_open s c.xid
+takes_memory s (Undo x) = false
+takes_memory s (Commit x) = false
+takes_memory s (Rollback x) = false
+takes_memory s (Table t) = true
+takes_memory s DictEnd = false
 
 -- There is no reason against the vector, or one that is looked for with memory: a table is copied before it is tested, and
 -- the keys of a change before its locks and the count of changes are.
@@ -89,7 +90,7 @@ may_want (Some laws.OpenLimit) = true
 abbrev pub may_want_in : Header → ℕ → List Vector → Standing → Bool
 may_want_in h vec [] s = false
 may_want_in h vec (v ∷ vs) s =
-    (takes_memory v && may_want (vector_fault h s v)) || (is_none (vector_fault h s v) && may_want_in h (vec + 1) vs (standing_after vec v s))
+    (takes_memory s v && may_want (vector_fault h s v)) || (is_none (vector_fault h s v) && may_want_in h (vec + 1) vs (standing_after vec v s))
 
 -- memory may want at a vector of the record, which may follow as a whole
 abbrev pub wants_memory : Standing → Entry → Bool

@@ -232,7 +232,7 @@ impl State {
         ensures table { OnOk result (IsTable self.new.table) }
         ensures done { OnOk result (seen self.new ≡ standing_after vec (OfChange change.now) (seen self.old)) }
         ensures exact { Judges (own_fault (seen self.old) (OfChange change.now)) result }
-        ensures memory { OnWant result (IsTrue (may_want (own_fault (seen self.old) (OfChange change.now)))) }
+        ensures memory { OnWant result (IsTrue (takes_memory (seen self.old) (OfChange change.now) && may_want (own_fault (seen self.old) (OfChange change.now)))) }
         ensures left { Leaves self.old.dict self.new.dict result }
     {
         if self.is_open(change.xid) {
@@ -328,7 +328,7 @@ impl State {
         ensures table { OnOk result (IsTable self.new.table) }
         ensures done { OnOk result (seen self.new ≡ standing_after vec vector.now (seen self.old)) }
         ensures exact { Judges (own_fault (seen self.old) vector.now) result }
-        ensures memory { OnWant result (IsTrue (takes_memory vector.now && may_want (own_fault (seen self.old) vector.now))) }
+        ensures memory { OnWant result (IsTrue (takes_memory (seen self.old) vector.now && may_want (own_fault (seen self.old) vector.now))) }
         ensures left { Leaves self.old.dict self.new.dict result }
     {
         match vector {
@@ -354,7 +354,7 @@ impl State {
         ensures same { OnOk result (self.new.rec ≡ self.old.rec) }
         ensures done { OnOk result (seen self.new ≡ standing_after vec vector.now (seen self.old)) }
         ensures exact { Judges (vector_fault head.now (seen self.old) vector.now) result }
-        ensures memory { OnWant result (IsTrue (takes_memory vector.now && may_want (vector_fault head.now (seen self.old) vector.now))) }
+        ensures memory { OnWant result (IsTrue (takes_memory (seen self.old) vector.now && may_want (vector_fault head.now (seen self.old) vector.now))) }
         ensures left { Leaves self.old.dict self.new.dict result }
     {
         if self.is_misplaced(head, vector) {
