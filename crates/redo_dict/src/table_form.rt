@@ -230,7 +230,6 @@ fn key_width(table: &TableRow, key: &[u8]) -> u32
     sum
 }
 
-#[tactic(auto, using(crate::proofs::Forms::key_short))]
 fn is_wide_key(table: &TableRow, key: &KeyColumns) -> bool
     ensures { result ≡ nat_lt 128 (widest_key table.now key.now) }
 {

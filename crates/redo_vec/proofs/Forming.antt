@@ -4,6 +4,7 @@ use Rattle.std.specs.Prelude.{◌||◌, ◌&&◌, nat_lt, nat_le, ◌==◌}
 use Rattle.std.specs.List.{list_all}
 use Rattle.std.specs.Int.{w16}
 use Rattle.std.proofs.lemmas.Bool.{ltb-false, le-leb, lt-ltb}
+use Rattle.std.proofs.lemmas.Bool.Decides.{nat_tests}
 use Rattle.rl_value.specs.declared.value.Value.{Value}
 use Rattle.rl_value.specs.Text.{columns_rise}
 use Rattle.redo_vec.specs.declared.columns.Column.{Column}
@@ -16,6 +17,16 @@ use Rattle.redo_vec.proofs.Steps.{bind_ok, passed, held, ok_is, neither, Chain, 
 
 pub both_true : (a b : Bool) → a ≡ true → b ≡ true → (a && b) ≡ true
 both_true a b e f = rw (e, f) refl
+
+three_true : (a b c : Bool) → (a && b && c) ≡ true → (a ≡ true) × (b ≡ true) × (c ≡ true)
+three_true true true true e = (refl, refl, refl)
+three_true true true false e = absurd cc
+three_true true false c e = absurd cc
+three_true false b c e = absurd cc
+
+second_true : (a b : Bool) → (a && b) ≡ true → b ≡ true
+second_true true b e = e
+second_true false b e = absurd cc
 
 -- a column from this one on, below 32
 pub record Rises (from column : ℕ) : Type 0 where
@@ -132,3 +143,18 @@ columns_form n count bytes x some most e =
     let low : 1 ≤ length x.0 = rw h.1 some in
     let high : length x.0 ≤ 32 = rw h.1 most in
     both_true _ _ (both_true _ _ (le-leb _ _ low) (le-leb _ _ high)) (chain_all (λ c. is_kind c.kind) 0 x.0 h.0)
+
+-- ---- how many columns a key has
+
+-- columns that rise below 32 are at most 32
+rises_short : (from : ℕ) (columns : List ℕ) → from ≤ 32 → rises from columns ≡ true → from + length columns ≤ 32
+rises_short from [] low e = omega (arith, low)
+rises_short from (c ∷ cs) low e =
+    let parts = three_true (nat_le from c) (nat_lt c 32) (rises (c + 1) cs) e in
+    let above : from ≤ c = grind (arith, nat_tests, parts.0) in
+    let below : c < 32 = grind (arith, nat_tests, parts.1) in
+    let rest = rises_short (c + 1) cs (omega (arith, below)) parts.2 in
+    omega (arith, above, rest)
+
+pub key_short : (columns : List ℕ) → is_key_columns columns ≡ true → length columns ≤ 32
+key_short columns e = let rest = rises_short 0 columns (omega arith) (second_true (nat_le 1 (length columns)) (rises 0 columns) e) in omega (arith, rest)

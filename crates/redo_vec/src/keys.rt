@@ -2,7 +2,7 @@
 //!
 //! A key lists its columns strictly rising, so each set of columns has one spelling. The primary key stands
 //! first, and up to four unique keys behind it.
-ghost use Rattle.std.specs.Prelude.{◌≡◌, IsTrue, IfOk};
+ghost use Rattle.std.specs.Prelude.{◌≡◌, ◌≤◌, IsTrue, IfOk, length};
 ghost use Rattle.redo_vec.specs.Forms.{is_key_columns, are_keys};
 
 use rl_value::NoMemory;
@@ -36,8 +36,10 @@ impl KeyColumns {
     }
 
     /// What it holds, in order.
+    #[tactic(auto, using(crate::proofs::Forming::key_short))]
     pub fn items(&self) -> &[u8]
         ensures form { IsTrue (is_key_columns self.now) }
+        ensures short { length self.now ≤ 32 }
         ensures same { result.now ≡ self.now }
     {
         self.items.as_slice()

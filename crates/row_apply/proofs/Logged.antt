@@ -12,7 +12,6 @@ use Rattle.redo_vec.specs.declared.change.Op.{Op}
 use Rattle.redo_vec.specs.declared.change.Op.TheVariants.{Insert, Update, Delete}
 use Rattle.redo_vec.specs.declared.columns.Column.{Column}
 use Rattle.redo_vec.specs.declared.table.TableRow.{TableRow}
-use Rattle.redo_dict.proofs.Forms.{key_short}
 use Rattle.redo_spec.specs.ChangeForm.{change_fault_in, has_column, columns_of, is_supplemental, wrong_supplement, wrong_cells, beyond, has_cell}
 use Rattle.redo_spec.specs.ConflictKeys.{cell_at}
 use Rattle.redo_spec.specs.Dictionary.{first_of, primary_of, uniques_of, numbers_from, column_numbers, has_bad_keys, stands_twice, is_nullable}
@@ -133,10 +132,10 @@ first_there cells (p ∷ ps) n form inside each =
     let own : (p == p) ≡ true = grind (arith, nat_tests) in
     one_more (cell_at cells p) (filter_map (cell_at cells) ps) (cell_there cells p (each p (left (p == p) _ own) (grind (arith, nat_tests, low.0))))
 
-pub logged_is_row : (t : TableRow) (c : Change) → has_bad_keys t ≡ false → change_fault_in t c ≡ None → c.op ≢ Insert → columns_rise 0 c.old ≡ true → is_key_columns (primary_of t) ≡ true → IsRow (logged_key t c.old)
-logged_is_row t c keys e op rising form =
+pub logged_is_row : (t : TableRow) (c : Change) → has_bad_keys t ≡ false → change_fault_in t c ≡ None → c.op ≢ Insert → columns_rise 0 c.old ≡ true → is_key_columns (primary_of t) ≡ true → length (primary_of t) ≤ 32 →
+    IsRow (logged_key t c.old)
+logged_is_row t c keys e op rising form few =
     let a = accepted t c e in
-    let few = key_short (primary_of t) form in
     let no_longer = no_more c.old (primary_of t) in
     record {
       some = first_there c.old (primary_of t) (length t.columns) form (primary_within t keys) (λ p. old_has t c c.op p op rising a.within_old a.shape a.logged);

@@ -10,7 +10,6 @@ use Rattle.redo_vec.specs.declared.columns.Column.{Column}
 use Rattle.redo_vec.specs.declared.table.TableRow.{TableRow}
 use Rattle.redo_vec.specs.Columns.{are_columns, is_kind}
 use Rattle.redo_vec.specs.Forms.{is_key_columns}
-use Rattle.redo_dict.proofs.Forms.{key_short}
 use Rattle.redo_spec.specs.ConflictKeys.{cell_at}
 use Rattle.redo_spec.specs.Dictionary.{numbers_from, column_numbers}
 use Rattle.redo_spec.specs.Effect.{cell_values, with_cells}
@@ -23,11 +22,10 @@ key_long : (columns : List ℕ) → is_key_columns columns ≡ true → 1 ≤ le
 key_long [] e = absurd (cc)
 key_long (c ∷ cs) e = omega arith
 
-pub key_is_row : (row : List Value) (columns : List ℕ) → is_key_columns columns ≡ true → IsRow (values_at row columns)
-key_is_row row columns e =
+pub key_is_row : (row : List Value) (columns : List ℕ) → is_key_columns columns ≡ true → length columns ≤ 32 → IsRow (values_at row columns)
+key_is_row row columns e most =
     let count : length (values_at row columns) ≡ length columns = length-map columns (value_in row) in
     let some = key_long columns e in
-    let most = key_short columns e in
     record { some = omega (arith, count, some); most = omega (arith, count, most) }
 
 pub cells_are_row : (columns : List Column) (cells : List (ℕ × Value)) → are_columns columns ≡ true → length cells ≡ length columns → IsRow (cell_values cells)

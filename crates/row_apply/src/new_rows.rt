@@ -134,6 +134,7 @@ fn logged_values(
 /// The columns of the table's primary key.
 pub fn primary_columns(table: &TableRow) -> &[u8]
     ensures form { IsTrue (is_key_columns (primary_of table.now)) }
+    ensures short { length (primary_of table.now) ≤ 32 }
     ensures same { result.now ≡ primary_of table.now }
 {
     match table.keys.items() {
