@@ -31,6 +31,11 @@ are_bytes : (bytes : List ℕ) → IsBytes bytes → AreBytes bytes
 are_bytes [] h = tt
 are_bytes (b ∷ bytes) h = (h 0, are_bytes bytes (IsBytes-rest b bytes h))
 
+pub bytes_fit : (bytes : List ℕ) → AreBytes bytes → IsBytes bytes
+bytes_fit [] are i = omega arith
+bytes_fit (b ∷ bytes) are zero = are.0
+bytes_fit (b ∷ bytes) are (suc i) = bytes_fit bytes are.1 i
+
 -- what a reader took from the front
 pub record Takes (bytes text rest : List ℕ) : Type 0 where
   pub parts : bytes ≡ text ++ rest
