@@ -18,7 +18,6 @@ use Rattle.redo_vec.specs.Spelling.{vector, record_bytes}
 use Rattle.redo_vec.specs.Ranges.{IsRecord}
 use Rattle.redo_vec.specs.Cutting.{number_in, first_record}
 use Rattle.redo_vec.specs.Reading.{record_at}
-use Rattle.redo_vec.proofs.RecordLaws.{record_whole}
 use Rattle.redo_spec.specs.declared.header.Header.{Header}
 use Rattle.redo_spec.specs.Log.{Log, IsHeader, IsLog, header_bytes, log_bytes}
 use Rattle.redo_spec.specs.LogHeader.{header_in, header_fault}
@@ -56,7 +55,7 @@ tests_pass long size count x low high within some most =
     let f : nat_lt 255 count ≡ false = grind (arith, nat_tests, most) in
     rw (a, b, c, d, e, f) refl
 
-cut_by : (bytes : List ℕ) (size count : ℕ) → number_in w32 0 bytes ≡ size → number_in w16 12 bytes ≡ count →
+pub cut_by : (bytes : List ℕ) (size count : ℕ) → number_in w32 0 bytes ≡ size → number_in w16 12 bytes ≡ count →
     15 ≤ size → size ≤ 65536 → size ≤ length bytes → 1 ≤ count → count ≤ 255 → first_record bytes ≡ Ok (take size bytes, drop size bytes)
 cut_by bytes size count is_size is_count low high within some most =
     ap (λ (s : ℕ). refused_by (first_fault (
@@ -93,14 +92,18 @@ cut_first r rest ok =
 
 -- ---- the records of a log
 
-records_read : (h : Header) (rs : List RedoRec) → AllByRecursion IsRecord rs →
+-- the law of `redo_vec` by which a spelled record is read
+abbrev pub SpelledIsRead : Type 0
+SpelledIsRead = (r : RedoRec) → IsRecord r → record_at (record_bytes r) ≡ Ok r
+
+records_read : SpelledIsRead → (h : Header) (rs : List RedoRec) → AllByRecursion IsRecord rs →
     records_in h (length rs) (flat_map record_bytes rs) ≡ record { entries = map (λ r. (h, r)) rs; cause = None }
-records_read h [] ok = refl
-records_read h (r ∷ rs) ok =
+records_read read h [] ok = refl
+records_read read h (r ∷ rs) ok =
     let later = flat_map record_bytes rs in
     ap (λ o. cut_or o (λ cut rest. decoded_or h (record_at cut) (records_in h (length rs) rest))) (cut_first r later ok.0)
-    ∙ ap (λ o. decoded_or h o (records_in h (length rs) later)) (record_whole r ok.0)
-    ∙ ap (with_entry (h, r)) (records_read h rs ok.1)
+    ∙ ap (λ o. decoded_or h o (records_in h (length rs) later)) (read r ok.0)
+    ∙ ap (with_entry (h, r)) (records_read read h rs ok.1)
 
 header_again : (h : Header) (rest : List ℕ) → IsHeader h → header_in (header_bytes h ++ rest) ≡ h
 header_again h rest ok =
@@ -136,23 +139,23 @@ header_fits seq h rest ok is_seq some rising counted =
 same_number : (n : ℕ) → (n == n) ≡ true
 same_number n = grind (arith, nat_tests)
 
-log_read : (l : Log) → IsLog l → records_of (log_bytes l) ≡ record { entries = entries_of l; cause = None }
-log_read l ok =
+log_read : SpelledIsRead → (l : Log) → IsLog l → records_of (log_bytes l) ≡ record { entries = entries_of l; cause = None }
+log_read read l ok =
     let rest = flat_map record_bytes l.records in
     ap (λ h. records_in h h.count rest) (header_again l.head rest ok.head)
     ∙ ap (λ n. records_in l.head n rest) ok.counted
-    ∙ records_read l.head l.records ok.each
+    ∙ records_read read l.head l.records ok.each
 
-redo_read : (seq : ℕ) (l : Log) → IsLog l → redo_from seq 0 ((seq, log_bytes l) ∷ []) ≡ record { entries = entries_of l; stop = Drained }
-redo_read seq l ok =
+redo_read : SpelledIsRead → (seq : ℕ) (l : Log) → IsLog l → redo_from seq 0 ((seq, log_bytes l) ∷ []) ≡ record { entries = entries_of l; stop = Drained }
+redo_read read seq l ok =
     ap (λ b. cond b (after_records 0 (records_of (log_bytes l)) (ended Drained)) (ended (Gap seq (seq - 1)))) (same_number seq)
-    ∙ ap (λ r. after_records 0 r (ended Drained)) (log_read l ok)
+    ∙ ap (λ r. after_records 0 r (ended Drained)) (log_read read l ok)
     ∙ ap (λ es. record { entries = es; stop = Drained }) (append-nil (entries_of l))
 
 -- The fold of a spelled log is the fold of its records.
-pub log_is_read : (seq : ℕ) (l : Log) → IsLog l → header_fault seq (log_bytes l) ≡ None →
+pub log_is_read : SpelledIsRead → (seq : ℕ) (l : Log) → IsLog l → header_fault seq (log_bytes l) ≡ None →
     fold_of_log seq (Some (log_bytes l)) ≡ fold_of_redo seq (l.head.first - 1) (entries_of l) Drained
-log_is_read seq l ok fits =
+log_is_read read seq l ok fits =
     ap (λ o. headed o seq (log_bytes l)) fits
-    ∙ ap (λ redo. fold_of_redo seq ((header_in (log_bytes l)).first - 1) redo.entries redo.stop) (redo_read seq l ok)
+    ∙ ap (λ redo. fold_of_redo seq ((header_in (log_bytes l)).first - 1) redo.entries redo.stop) (redo_read read seq l ok)
     ∙ ap (λ h. fold_of_redo seq (h.first - 1) (entries_of l) Drained) (header_again l.head (flat_map record_bytes l.records) ok.head)

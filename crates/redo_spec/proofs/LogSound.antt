@@ -1,10 +1,11 @@
 -- Bytes that are read without a fault are the spelling of what is read: a header, its records, and nothing else.
-use Rattle.std.proofs.Common.{◌≡◌, ℕ, zero, suc, ◌+◌, ◌-◌, ◌≤◌, ◌<◌, ◌||◌, ◌==◌, nat_lt, nat_le, not, codes, Bool, true, false, cond, List, [], ◌∷◌, ◌++◌, length, take, drop, map, get_or, Result, Ok, Err, Option, Some, None, refl, sym, ap, subst, ◌∙◌, arith, inl, inr}
+use Rattle.std.proofs.Common.{◌≡◌, ℕ, zero, suc, ◌+◌, ◌-◌, ◌^◌, ◌≤◌, ◌<◌, ◌||◌, ◌==◌, nat_lt, nat_le, not, codes, Bool, true, false, cond, List, [], ◌∷◌, ◌++◌, length, take, drop, map, get_or, Result, Ok, Err, Option, Some, None, refl, sym, ap, subst, ◌∙◌, arith, inl, inr}
 use Rattle.std.specs.Int.{w16, w32, w64, from_be_bytes}
 use Rattle.std.specs.List.{flat_map, AllByRecursion}
 use Rattle.std.specs.Cmp.Lexicographic.{same_text}
 use Rattle.std.proofs.lemmas.Bool.{cases_lt, ltb-false, eqb-true, not-false, or_parts}
-use Rattle.std.proofs.lemmas.List.{length-take, length-drop, get_or-take, get_or-drop, get_or_past, take-take, drop-take, take-append-drop}
+use Rattle.std.proofs.lemmas.Nat.{be_bytes_2, be_bytes_4, be_bytes_8}
+use Rattle.std.proofs.lemmas.List.{length-take, length-drop, nil_from_length, get_or-take, get_or-drop, get_or_past, take-take, drop-take, take-append-drop}
 use Rattle.rl_value.specs.declared.cause.CutFault.{CutFault}
 use Rattle.rl_value.specs.declared.cause.HeadFault.{HeadFault}
 use Rattle.rl_value.specs.declared.cause.HeadFault.TheVariants as heads
@@ -15,20 +16,32 @@ use Rattle.redo_vec.specs.Spelling.{be16, be32, be64, record_bytes}
 use Rattle.redo_vec.specs.Ranges.{AreBytes, IsRecord}
 use Rattle.redo_vec.specs.Cutting.{number_in, first_record}
 use Rattle.redo_vec.specs.Reading.{Fault, record_at}
-use Rattle.redo_vec.proofs.Takes.{IsBytes, wide16, wide32, wide64}
-use Rattle.redo_vec.proofs.RecordLaws.{IsCut, record_sound}
 use Rattle.redo_spec.specs.declared.header.Header.{Header}
 use Rattle.redo_spec.specs.History.{Entry}
 use Rattle.redo_spec.specs.Log.{IsHeader, IsSpelled, header_bytes}
 use Rattle.redo_spec.specs.LogHeader.{header_in, header_fault}
 use Rattle.redo_spec.specs.Redo.{cut_or, decoded_or, records_in, records_of}
+use Rattle.redo_spec.proofs.LogLaws.{cut_by}
+
+-- ---- the law of `redo_vec` by which a read record is spelled
+
+pub record ReadIsSpelled : Type 0 where
+  pub fits : (bytes : List ℕ) (r : RedoRec) → AreBytes bytes → first_record bytes ≡ Ok (bytes, []) → record_at bytes ≡ Ok r → IsRecord r
+  pub spelled : (bytes : List ℕ) (r : RedoRec) → AreBytes bytes → first_record bytes ≡ Ok (bytes, []) → record_at bytes ≡ Ok r → bytes ≡ record_bytes r
 
 -- ---- bytes
 
-bytes_fit : (bytes : List ℕ) → AreBytes bytes → (i : ℕ) → get_or bytes i 0 < 256
+abbrev IsBytes : List ℕ → Type 0
+IsBytes bytes = (i : ℕ) → get_or bytes i 0 < 256
+
+bytes_fit : (bytes : List ℕ) → AreBytes bytes → IsBytes bytes
 bytes_fit [] a i = omega arith
 bytes_fit (b ∷ bytes) a zero = a.0
 bytes_fit (b ∷ bytes) a (suc i) = bytes_fit bytes a.1 i
+
+are_bytes : (bytes : List ℕ) → IsBytes bytes → AreBytes bytes
+are_bytes [] fits = tt
+are_bytes (b ∷ bytes) fits = (fits 0, are_bytes bytes (λ i. fits (suc i)))
 
 drop_fits : (n : ℕ) (bytes : List ℕ) → IsBytes bytes → IsBytes (drop n bytes)
 drop_fits n bytes fits i = rw get_or-drop (fits (n + i))
@@ -66,17 +79,17 @@ front8 (a ∷ b ∷ c ∷ d ∷ e ∷ f ∷ g ∷ h ∷ bytes) = refl
 -- a number that is read is spelled by the bytes that it is read from
 spelled2 : (at : ℕ) (bytes : List ℕ) → IsBytes bytes → at + 2 ≤ length bytes → take 2 (drop at bytes) ≡ be16 (number_in w16 at bytes)
 spelled2 at bytes fits long =
-    sym (wide16.back (take 2 (drop at bytes)) (omega (arith, long, length-take 2 (drop at bytes), length-drop at bytes)) (take_fits 2 (drop at bytes) (drop_fits at bytes fits)))
+    sym (be_bytes_2 (take 2 (drop at bytes)) _ (omega (arith, long, length-take 2 (drop at bytes), length-drop at bytes)) (take_fits 2 (drop at bytes) (drop_fits at bytes fits)) refl)
     ∙ ap be16 (front2 (drop at bytes))
 
 spelled4 : (at : ℕ) (bytes : List ℕ) → IsBytes bytes → at + 4 ≤ length bytes → take 4 (drop at bytes) ≡ be32 (number_in w32 at bytes)
 spelled4 at bytes fits long =
-    sym (wide32.back (take 4 (drop at bytes)) (omega (arith, long, length-take 4 (drop at bytes), length-drop at bytes)) (take_fits 4 (drop at bytes) (drop_fits at bytes fits)))
+    sym (be_bytes_4 (take 4 (drop at bytes)) _ (omega (arith, long, length-take 4 (drop at bytes), length-drop at bytes)) (take_fits 4 (drop at bytes) (drop_fits at bytes fits)) refl)
     ∙ ap be32 (front4 (drop at bytes))
 
 spelled8 : (at : ℕ) (bytes : List ℕ) → IsBytes bytes → at + 8 ≤ length bytes → take 8 (drop at bytes) ≡ be64 (number_in w64 at bytes)
 spelled8 at bytes fits long =
-    sym (wide64.back (take 8 (drop at bytes)) (omega (arith, long, length-take 8 (drop at bytes), length-drop at bytes)) (take_fits 8 (drop at bytes) (drop_fits at bytes fits)))
+    sym (be_bytes_8 (take 8 (drop at bytes)) _ (omega (arith, long, length-take 8 (drop at bytes), length-drop at bytes)) (take_fits 8 (drop at bytes) (drop_fits at bytes fits)) refl)
     ∙ ap be64 (front8 (drop at bytes))
 
 -- ---- the header
@@ -136,13 +149,19 @@ header_spelled bytes fits p =
     joined 36 4 bytes (codes "SRL1" ++ be16 1 ++ be16 1 ++ be32 h.dbid ++ be32 h.seq ++ be64 h.first ++ be64 h.next ++ be32 h.count) (be32 0) to36
     (spelled4 36 bytes fits (omega (arith, long)) ∙ ap be32 p.reserved)
 
+below32 : (bytes : List ℕ) → IsBytes bytes → from_be_bytes w32 bytes < 2 ^ 32
+below32 bytes fits = omega (arith, fits 0, fits 1, fits 2, fits 3)
+
+below64 : (bytes : List ℕ) → IsBytes bytes → from_be_bytes w64 bytes < 2 ^ 64
+below64 bytes fits = omega (arith, fits 0, fits 1, fits 2, fits 3, fits 4, fits 5, fits 6, fits 7)
+
 header_fits : (bytes : List ℕ) → IsBytes bytes → IsHeader (header_in bytes)
 header_fits bytes fits = record {
-  seq = wide32.below (drop 12 bytes) (drop_fits 12 bytes fits);
-  dbid = wide32.below (drop 8 bytes) (drop_fits 8 bytes fits);
-  first = wide64.below (drop 16 bytes) (drop_fits 16 bytes fits);
-  next = wide64.below (drop 24 bytes) (drop_fits 24 bytes fits);
-  count = wide32.below (drop 32 bytes) (drop_fits 32 bytes fits);
+  seq = below32 (drop 12 bytes) (drop_fits 12 bytes fits);
+  dbid = below32 (drop 8 bytes) (drop_fits 8 bytes fits);
+  first = below64 (drop 16 bytes) (drop_fits 16 bytes fits);
+  next = below64 (drop 24 bytes) (drop_fits 24 bytes fits);
+  count = below32 (drop 32 bytes) (drop_fits 32 bytes fits);
 }
 
 -- ---- one record at the front
@@ -159,7 +178,7 @@ some_count zero e = absurd (cc)
 some_count (suc k) e = omega arith
 
 cut_fits : (bytes : List ℕ) (size : ℕ) → 15 ≤ size → size ≤ 65536 → size ≤ length bytes → number_in w32 0 bytes ≡ size → 1 ≤ number_in w16 12 bytes → number_in w16 12 bytes ≤ 255 →
-    IsCut (take size bytes)
+    first_record (take size bytes) ≡ Ok (take size bytes, [])
 cut_fits bytes size low high long is some few =
     let count : length (take size bytes) ≡ size = omega (arith, long, length-take size bytes) in
     let number : number_in w32 0 (take size bytes) ≡ size =
@@ -171,17 +190,15 @@ cut_fits bytes size low high long is some few =
     ∙ sym (front2 (take (size - 12) (drop 12 bytes)))
     ∙ ap (from_be_bytes w16) (take-take 2 (size - 12) (drop 12 bytes) (omega (arith, low)))
     ∙ front2 (drop 12 bytes) in
-    record {
-      least = omega (arith, low, count);
-      most = omega (arith, high, count);
-      size = number ∙ sym count;
-      some = omega (arith, some, vectors);
-      few = omega (arith, few, vectors);
-    }
+    let cut = take size bytes in
+    let whole : take size cut ≡ cut = take-take size size bytes (omega arith) in
+    let nothing : drop size cut ≡ [] = nil_from_length (drop size cut) (omega (arith, count, length-drop size cut)) in
+    cut_by cut size (number_in w16 12 bytes) number vectors low high (omega (arith, count)) some few
+    ∙ (λ i. Ok (whole i, nothing i))
 
 -- a record that is cut off, and what is left
 record IsFront (bytes cut rest : List ℕ) : Type 0 where
-  cut_fits : IsCut cut
+  whole : first_record cut ≡ Ok (cut, [])
   parts : bytes ≡ cut ++ rest
   bytes_fit : IsBytes cut
   rest_fits : IsBytes rest
@@ -200,7 +217,7 @@ front_is bytes cut rest fits e =
     let limits = or_parts (nat_lt size 15) (nat_lt 65536 size) b.0 in
     let counts = or_parts (number_in w16 12 bytes == 0) (nat_lt 255 (number_in w16 12 bytes)) d.0 in
     record {
-      cut_fits = subst IsCut cut_is
+      whole = subst (λ (c : List ℕ). first_record c ≡ Ok (c, [])) cut_is
           (cut_fits bytes size (ltb-false size 15 limits.0) (ltb-false 65536 size limits.1) (ltb-false (length bytes) size c.0) refl
           (some_count (number_in w16 12 bytes) counts.0) (ltb-false 255 (number_in w16 12 bytes) counts.1));
       parts = sym (take-append-drop size bytes) ∙ (λ i. cut_is i ++ rest_is i);
@@ -215,30 +232,30 @@ record AreSpelled (count : ℕ) (bytes : List ℕ) (entries : List Entry) : Type
   parts : bytes ≡ flat_map record_bytes (map (λ e. e.1) entries)
   counted : count ≡ length entries
 
-decoded_sound : (h : Header) (count : ℕ) (bytes cut rest : List ℕ) (found : Result RedoRec Fault) → record_at cut ≡ found → IsFront bytes cut rest →
+decoded_sound : ReadIsSpelled → (h : Header) (count : ℕ) (bytes cut rest : List ℕ) (found : Result RedoRec Fault) → record_at cut ≡ found → IsFront bytes cut rest →
     (decoded_or h found (records_in h count rest)).cause ≡ None →
     ((records_in h count rest).cause ≡ None → AreSpelled count rest (records_in h count rest).entries) → AreSpelled (suc count) bytes (decoded_or h found (records_in h count rest)).entries
-decoded_sound h count bytes cut rest (Err fault) is front e more = absurd (cc)
-decoded_sound h count bytes cut rest (Ok r) is front e more =
-    let here = record_sound cut r front.bytes_fit front.cut_fits is in
-    let spelled = here.1 in
+decoded_sound law h count bytes cut rest (Err fault) is front e more = absurd (cc)
+decoded_sound law h count bytes cut rest (Ok r) is front e more =
+    let are = are_bytes cut front.bytes_fit in
+    let spelled = law.spelled cut r are front.whole is in
     let later = more e in
     let after = later.parts in
-    record { each = (here.0, later.each); parts = front.parts ∙ (λ i. spelled i ++ after i); counted = ap suc later.counted }
+    record { each = (law.fits cut r are front.whole is, later.each); parts = front.parts ∙ (λ i. spelled i ++ after i); counted = ap suc later.counted }
 
-cut_sound : (h : Header) (count : ℕ) (bytes : List ℕ) (found : Result (List ℕ × List ℕ) CutFault) → first_record bytes ≡ found → IsBytes bytes →
+cut_sound : ReadIsSpelled → (h : Header) (count : ℕ) (bytes : List ℕ) (found : Result (List ℕ × List ℕ) CutFault) → first_record bytes ≡ found → IsBytes bytes →
     (cut_or found (λ cut rest. decoded_or h (record_at cut) (records_in h count rest))).cause ≡ None →
     ((rest : List ℕ) → IsBytes rest → (records_in h count rest).cause ≡ None → AreSpelled count rest (records_in h count rest).entries) →
     AreSpelled (suc count) bytes (cut_or found (λ cut rest. decoded_or h (record_at cut) (records_in h count rest))).entries
-cut_sound h count bytes (Err fault) is fits e more = absurd (cc)
-cut_sound h count bytes (Ok (cut, rest)) is fits e more =
+cut_sound law h count bytes (Err fault) is fits e more = absurd (cc)
+cut_sound law h count bytes (Ok (cut, rest)) is fits e more =
     let front = front_is bytes cut rest fits is in
-    decoded_sound h count bytes cut rest (record_at cut) refl front e (λ later. more rest front.rest_fits later)
+    decoded_sound law h count bytes cut rest (record_at cut) refl front e (λ later. more rest front.rest_fits later)
 
-records_sound : (h : Header) (count : ℕ) (bytes : List ℕ) → IsBytes bytes → (records_in h count bytes).cause ≡ None → AreSpelled count bytes (records_in h count bytes).entries
-records_sound h zero [] fits e = record { each = tt; parts = refl; counted = refl }
-records_sound h zero (b ∷ bytes) fits e = absurd (cc)
-records_sound h (suc count) bytes fits e = cut_sound h count bytes (first_record bytes) refl fits e (λ rest ok later. records_sound h count rest ok later)
+records_sound : ReadIsSpelled → (h : Header) (count : ℕ) (bytes : List ℕ) → IsBytes bytes → (records_in h count bytes).cause ≡ None → AreSpelled count bytes (records_in h count bytes).entries
+records_sound law h zero [] fits e = record { each = tt; parts = refl; counted = refl }
+records_sound law h zero (b ∷ bytes) fits e = absurd (cc)
+records_sound law h (suc count) bytes fits e = cut_sound law h count bytes (first_record bytes) refl fits e (λ rest ok later. records_sound law h count rest ok later)
 
 -- ---- the log
 
@@ -247,13 +264,13 @@ map_length [] = refl
 map_length (e ∷ entries) = ap suc (map_length entries)
 
 -- Bytes that are read without a fault are the spelling of the log that is read.
-pub read_is_spelled : (seq : ℕ) (bytes : List ℕ) → AreBytes bytes → header_fault seq bytes ≡ None → (records_of bytes).cause ≡ None →
+pub read_is_spelled : ReadIsSpelled → (seq : ℕ) (bytes : List ℕ) → AreBytes bytes → header_fault seq bytes ≡ None → (records_of bytes).cause ≡ None →
     IsSpelled (record { head = header_in bytes; records = map (λ e. e.1) (records_of bytes).entries }) bytes
-read_is_spelled seq bytes are head e =
+read_is_spelled law seq bytes are head e =
     let fits = bytes_fit bytes are in
     let h = header_in bytes in
     let front = header_spelled bytes fits (header_passed seq bytes head) in
-    let found = records_sound h h.count (drop 40 bytes) (drop_fits 40 bytes fits) e in
+    let found = records_sound law h h.count (drop 40 bytes) (drop_fits 40 bytes fits) e in
     let back = found.parts in
     record {
       log = record { head = header_fits bytes fits; each = found.each; counted = found.counted ∙ sym (map_length (records_of bytes).entries) };

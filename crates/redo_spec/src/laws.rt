@@ -1,4 +1,4 @@
-//! Laws of the definitions, each stated by a public function with an empty body.
+//! Laws of the definitions, each stated by a public function with an empty body, or one that only calls laws of `redo_vec`.
 ghost use Rattle.std.specs.Prelude.{◌≡◌, ℕ, ◌+◌, ◌-◌, ◌≤◌, ◌<◌, List, ◌++◌, map, get_or, Option, None, Some, Ok, false, not, ◌&&◌};
 ghost use Rattle.std.specs.List.{list_any, AllByRecursion};
 ghost use Rattle.std.specs.Ordering.{eq_by_cmp};
@@ -21,17 +21,23 @@ ghost use Rattle.rl_value.specs.declared.verdict.Stop.{Stop};
 ghost use Rattle.rl_value.specs.declared.verdict.Stop.TheVariants.{Drained};
 ghost use Rattle.rl_value.specs.declared.verdict.Verdict.TheVariants.{Stopped};
 
+use redo_vec::{a_read_record_is_spelled, a_spelled_record_is_read};
+
 /// The fold of a spelled log, from its bytes, is the fold of its records.
 pub fn spelled_log_is_read()
     ensures read { (seq : ℕ) (log : Log) → IsLog log → header_fault seq (log_bytes log) ≡ None →
         fold_of_log seq (Some (log_bytes log)) ≡ fold_of_redo seq (log.head.first - 1) (entries_of log) Drained }
-{}
+{
+    a_spelled_record_is_read();
+}
 
 /// Bytes that are read without a fault are the spelling of the log that is read.
 pub fn read_log_is_spelled()
     ensures spelled { (seq : ℕ) (bytes : List ℕ) → AreBytes bytes → header_fault seq bytes ≡ None → (records_of bytes).cause ≡ None →
         IsSpelled (record { head = header_in bytes; records = map (λ e. e.1) (records_of bytes).entries }) bytes }
-{}
+{
+    a_read_record_is_spelled();
+}
 
 /// The standing by which records are judged and the history of their transactions agree: each open transaction stands in
 /// the first with the conflict keys of the survivors that it has in the second.
