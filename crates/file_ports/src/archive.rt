@@ -2,7 +2,7 @@
 //!
 //! A file that is not there is an absent log. Whatever else keeps a call from its answer is a failure and is counted:
 //! a folder or a device in a log's place, a file that may not be read, want of memory for its name.
-ghost use Rattle.std.specs.Prelude.{◌≡◌, None, false, refl};
+ghost use Rattle.std.specs.Prelude.{◌≡◌, None, false, refl, IfOk};
 ghost use Rattle.std.specs.Io.{ReadsAtMost};
 
 use rl_ports::{Archive, Failed};
@@ -27,9 +27,11 @@ pub struct FileArchive<'r, R: Files> {
     faults: u64,
 }
 
-impl<'r, R: Files> FileArchive<'r, R> {
+impl<'r, R: Files + AllocGlobal> FileArchive<'r, R> {
     /// Opens nothing yet.
-    pub fn new(rt: &'r R) -> Result<FileArchive<'r, R>, NoMemory> {
+    pub fn new(rt: &'r R) -> Result<FileArchive<'r, R>, NoMemory>
+        ensures unfailed { IfOk result (λ device. ⟦<FileArchive<'r, R> as Archive>⟧.faults device ≡ 0) }
+    {
         Ok(FileArchive {
             rt,
             last: None,
@@ -65,7 +67,7 @@ fn open<R: Files + AllocGlobal>(rt: &R, seq: u32) -> Result<R::File, Failed> {
     }
 }
 
-// Some bytes of a file from this place on.
+// Some bytes of a file from this offset on.
 fn read_at<F: Read + Seek>(file: &mut F, at: u64, into: &mut [u8]) -> Result<usize, Failed>
     ensures { ReadsAtMost result into.new }
 {

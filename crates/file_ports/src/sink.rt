@@ -1,7 +1,7 @@
 //! The standard output as a sink.
 //!
 //! It is not buffered: a write that is answered has left the program. It tells nothing of what was written.
-ghost use Rattle.std.specs.Prelude.{None};
+ghost use Rattle.std.specs.Prelude.{◌≡◌, None, IfOk};
 
 use rl_ports::{Failed, Sink};
 use rl_value::NoMemory;
@@ -15,9 +15,11 @@ pub struct StdSink<'r, R> {
     faults: u64,
 }
 
-impl<'r, R> StdSink<'r, R> {
+impl<'r, R: Print> StdSink<'r, R> {
     /// Opens nothing yet.
-    pub fn new(rt: &'r R) -> Result<StdSink<'r, R>, NoMemory> {
+    pub fn new(rt: &'r R) -> Result<StdSink<'r, R>, NoMemory>
+        ensures unfailed { IfOk result (λ device. ⟦<StdSink<'r, R> as Sink>⟧.faults device ≡ 0) }
+    {
         Ok(StdSink { rt, faults: 0 })
     }
 }

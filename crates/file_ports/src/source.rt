@@ -1,7 +1,7 @@
 //! The standard input as a source.
 //!
 //! It tells nothing of what is left.
-ghost use Rattle.std.specs.Prelude.{None};
+ghost use Rattle.std.specs.Prelude.{◌≡◌, None, IfOk};
 
 use rl_ports::{Failed, Source};
 use rl_value::NoMemory;
@@ -14,9 +14,11 @@ pub struct StdSource<'r, R> {
     faults: u64,
 }
 
-impl<'r, R> StdSource<'r, R> {
+impl<'r, R: Input> StdSource<'r, R> {
     /// Opens nothing yet.
-    pub fn new(rt: &'r R) -> Result<StdSource<'r, R>, NoMemory> {
+    pub fn new(rt: &'r R) -> Result<StdSource<'r, R>, NoMemory>
+        ensures unfailed { IfOk result (λ device. ⟦<StdSource<'r, R> as Source>⟧.faults device ≡ 0) }
+    {
         Ok(StdSource { rt, faults: 0 })
     }
 }

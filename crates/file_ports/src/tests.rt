@@ -44,7 +44,7 @@ fn logs_are_files_of_the_folder(rt: HostRuntime) -> Result<(), Fail> {
 }
 
 #[test]
-fn the_input_is_read_to_its_end(rt: HostRuntime) -> Result<(), Fail> {
+fn a_read_without_room_gives_nothing(rt: HostRuntime) -> Result<(), Fail> {
     let mut source = StdSource::new(&rt)?;
     assert!(rt; matches!(source.read(&mut []), Ok(0)));
     Ok(())
