@@ -19,7 +19,7 @@ next_number n = min (n + 1) (2 ^ 64 - 1)
 abbrev pub noted : List ℕ → Noted → Noted
 noted line e = record { count = next_number e.count; lines = keep_last 100 (e.lines ++ (next_number e.count, line) ∷ []) }
 
--- the first of these lines, if there is one, has the next number; the last one has the number at which it ends
+-- these lines go on behind the number before, each with the next one, and the last has the number end
 abbrev pub follow : ℕ → ℕ → List (ℕ × List ℕ) → Bool
 follow end before [] = before == end
 follow end before (e ∷ es) = (e.0 == next_number before) && follow end e.0 es

@@ -21,7 +21,7 @@ one_more n = min (n + 1) (2 ^ 64 - 1)
 abbrev pub fails_next : Counted → Bool
 fails_next c = list_any (λ n. n == one_more c.made) c.fails
 
--- after a failure of its own
+-- one more failure, of the call that was counted last
 abbrev pub faulted : Counted → Counted
 faulted c = record { fails = c.fails; made = c.made; faults = one_more c.faults }
 

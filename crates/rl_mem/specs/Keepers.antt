@@ -1,5 +1,5 @@
--- What a keeper in memory is seen as: its pairs, and of one that fails at some calls these too, and whether a commit
--- that fails makes its change.
+-- What a keeper in memory is seen as: its pairs; and of one that can fail, its calls too, and whether a commit that fails
+-- makes its change.
 use Rattle.std.specs.Prelude.{Bool}
 use Rattle.rl_ports.specs.Store.{Store}
 use Rattle.rl_mem.specs.Calls.{Counted}

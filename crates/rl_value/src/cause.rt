@@ -1,8 +1,8 @@
 //! Why a record of the redo is malformed, in four stages: the log's header, the cut of its bytes into records,
 //! the decoding of a record, and what may follow the records before it.
 //!
-//! Within a stage the first fault in the order of the format is the one that is told. The variants stand in that
-//! order where the format has one.
+//! Within a stage the first fault in the order of its tests is told: header_fault, record_fault (redo_spec), first_record and
+//! record_at (redo_vec). The variants stand roughly in that order.
 
 ghost use Rattle.std.specs.Prelude.{◌≡◌, ◌<◌, IfOk};
 
@@ -10,7 +10,7 @@ use crate::key::Key;
 use crate::memory::NoMemory;
 use crate::xid::Xid;
 
-/// Why 40 bytes are no header of the log that is asked for.
+/// Why a log's first 40 bytes are not the header of the log that is asked for.
 #[derive(Clone, Copy, Debug, PartialEq, Eq)]
 pub enum HeadFault {
     /// The log has fewer bytes than a header.
@@ -29,7 +29,7 @@ pub enum HeadFault {
     Records,
     /// A byte that is kept for later use is not 0.
     Reserved,
-    /// The database id is another one.
+    /// The database id is another one. It is told last, and only where the database is known.
     Dbid,
 }
 
@@ -111,7 +111,8 @@ pub enum Cause {
     Head(HeadFault),
     /// No record is cut off there.
     Cut(CutFault),
-    /// The record's bytes are not decoded. The place is the offset in the record, in bytes, of the refused field.
+    /// The record's bytes are not decoded. The place is the offset in the record, in bytes, of the refused field. Of a field
+    /// that is not whole it is the record's length.
     Vector { fault: VecFault, place: u32 },
     /// The record may not follow those before it.
     Law(LawFault),

@@ -1,6 +1,6 @@
 //! Want of memory, the one refusal without a cause.
 //!
-//! It may come from each call whose signature names it, and no clause says when.
+//! It may come from each call whose signature names it. A clause may say where alone it comes; none says that it must.
 //! A call whose signature does not name it takes no memory.
 
 use thiserror::Error;

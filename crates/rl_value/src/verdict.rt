@@ -1,6 +1,6 @@
 //! How the redo ends, and how a run over it ends.
 //!
-//! A mismatch or a row limit ends a run before any end of the redo does, since it comes at an earlier commit.
+//! A miss or the row limit goes before any end of the redo, since its COMMIT stands before that end.
 
 ghost use Rattle.std.specs.Prelude.{◌≡◌, ◌<◌, IfOk};
 

@@ -8,7 +8,7 @@ use std::sync::Wait;
 use std::test::Fail;
 use std::thread::{Threads, join};
 
-/// One past the highest count of a `Counter`.
+/// The count from which on add adds nothing.
 const TOP: u64 = 1 << 62;
 
 /// A count in one run. Its rank is the count.
