@@ -37,7 +37,7 @@ impl Model for Cutter {
 fn keep(bytes: &mut Vec<u8>, used: usize, cause: Option<CutFault>) -> Result<(), NoMemory>
     requires { used ≤ length bytes.old.items }
     ensures ok { OnOk result (bytes.new.items ≡ left_after cause (drop used bytes.old.items)) }
-    ensures err { OnErr result (bytes.new.items ≡ bytes.old.items) }
+    ensures unchanged { OnErr result (bytes.new.items ≡ bytes.old.items) }
 {
     if cause.is_some() {
         bytes.clear();

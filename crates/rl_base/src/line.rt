@@ -69,7 +69,7 @@ impl Line {
     pub fn push(&mut self, byte: u8) -> Result<(), NoMemory>
         requires inside { byte ≢ LF }
         ensures grown { OnOk result (self.new ≡ self.old ++ byte ∷ []) }
-        ensures err { OnErr result (self.new ≡ self.old) }
+        ensures unchanged { OnErr result (self.new ≡ self.old) }
     {
         match self.bytes.push(byte) {
             Ok(()) => Ok(()),
@@ -81,7 +81,7 @@ impl Line {
     pub fn extend(&mut self, bytes: &[u8]) -> Result<(), NoMemory>
         requires inside { IsTrue (is_line bytes.now) }
         ensures grown { OnOk result (self.new ≡ self.old ++ bytes.now) }
-        ensures err { OnErr result (self.new ≡ self.old) }
+        ensures unchanged { OnErr result (self.new ≡ self.old) }
     {
         match self.bytes.extend_from_slice(bytes) {
             Ok(()) => Ok(()),

@@ -45,7 +45,7 @@ impl Lines {
     /// Puts one line at the end. A line that finds no memory is dropped.
     pub fn push(&mut self, line: Line) -> Result<(), NoMemory>
         ensures grown { OnOk result (self.new ≡ self.old ++ line ∷ []) }
-        ensures err { OnErr result (self.new ≡ self.old) }
+        ensures unchanged { OnErr result (self.new ≡ self.old) }
     {
         match self.lines.push(line) {
             Ok(()) => Ok(()),

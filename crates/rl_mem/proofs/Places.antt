@@ -10,7 +10,7 @@ use Rattle.std.specs.Cmp.{IsTotalOrder}
 use Rattle.std.specs.FinMap.Entries as entries
 use Rattle.std.specs.FinMap.Entries.{by_order}
 use Rattle.std.proofs.lemmas.Bool.Decides.{nat_tests}
-use Rattle.rl_mem.specs.Places.{IsSpot, IsGap, IsNext, first_is}
+use Rattle.rl_mem.specs.Places.{IsSpot, IsFree, IsNext, first_is}
 
 pub both : (a b : Bool) → a ≡ true → b ≡ true → (a && b) ≡ true
 both true b p q = q
@@ -143,7 +143,7 @@ module _ {K X : Type 0} (R : K → K → Ordering) (o : IsTotalOrder R) where
   )
 
   -- an entry is put where there is none of its key
-  pub put-gap : (i : ℕ) (k : K) (v : X) (es : List (K × X)) → IsGap R i k es → entries.put R k v es ≡ insert es i (k, v)
+  pub put-gap : (i : ℕ) (k : K) (v : X) (es : List (K × X)) → IsFree R i k es → entries.put R k v es ≡ insert es i (k, v)
   put-gap zero k v [] g = refl
   put-gap zero k v (e ∷ es) g = rw g refl
   put-gap (suc i) k v [] g = absurd g
@@ -160,12 +160,12 @@ module _ {K X : Type 0} (R : K → K → Ordering) (o : IsTotalOrder R) where
     below_head k e es h s = both _ _ (is_less _ h) (below_less k e.0 es h (first _ _ s))
 
     -- an entry is dropped where one of its key stands
-    gap_after : (k : K) (es : List (K × X)) → entries.below_all R k es ≡ true → IsGap R zero k es
+    gap_after : (k : K) (es : List (K × X)) → entries.below_all R k es ≡ true → IsFree R zero k es
     gap_after k [] b = tt
     gap_after k (e ∷ es) b = less _ (first _ _ b)
 
     pub dropped-there : (i : ℕ) (k : K) (es : List (K × X)) → entries.is_sorted R es ≡ true → IsSpot R i k es → first_is (λ (e : K × X). same e.0 k) (drop i es) ≡ true
-        → (remove es i ≡ filter (λ (e : K × X). not (same e.0 k)) es) × IsGap R i k (remove es i)
+        → (remove es i ≡ filter (λ (e : K × X). not (same e.0 k)) es) × IsFree R i k (remove es i)
     dropped-there zero k [] s p t = cc
     dropped-there (suc i) k [] s p t = absurd p
     dropped-there zero k (e ∷ es) s p t =
@@ -177,7 +177,7 @@ module _ {K X : Type 0} (R : K → K → Ordering) (o : IsTotalOrder R) where
         (rw unlike (ap (λ l. e ∷ l) rest.0), (p.0, rest.1))
 
     pub dropped-missing : (i : ℕ) (k : K) (es : List (K × X)) → entries.is_sorted R es ≡ true → IsSpot R i k es → first_is (λ (e : K × X). same e.0 k) (drop i es) ≡ false
-        → (es ≡ filter (λ (e : K × X). not (same e.0 k)) es) × IsGap R i k es
+        → (es ≡ filter (λ (e : K × X). not (same e.0 k)) es) × IsFree R i k es
     dropped-missing zero k [] s p t = (refl, tt)
     dropped-missing (suc i) k [] s p t = absurd p
     dropped-missing zero k (e ∷ es) s p t =

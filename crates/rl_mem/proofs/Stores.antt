@@ -13,7 +13,7 @@ use Rattle.std.proofs.lemmas.Bool.Decides.{nat_tests}
 use Rattle.rl_ports.specs.Store.{Store, place_cmp, same_place, is_key, is_store, key_of, after_item, next_pair}
 use Rattle.rl_ports.specs.declared.batch.Item.{Item}
 use Rattle.rl_ports.specs.declared.batch.Item.TheVariants.{Put, Drop}
-use Rattle.rl_mem.specs.Places.{IsSpot, IsGap, IsNext, first_is, first_in}
+use Rattle.rl_mem.specs.Places.{IsSpot, IsFree, IsNext, first_is, first_in}
 use Rattle.rl_mem.proofs.Places.{both, first, second, put-gap, put-without, dropped-there, dropped-missing, list_all-put, list_all-filter}
 
 pub place_total : IsTotalOrder place_cmp
@@ -73,14 +73,14 @@ is_sorted-store s h = first _ _ h
 -- what stands in a list after the item is dropped or put
 
 pub drop-there : (area i : ℕ) (key : List ℕ) (s : Store) → is_store s ≡ true → IsSpot place_cmp i (area, key) s → first_is (λ (e : (ℕ × List ℕ) × List ℕ). same_place e.0 (area, key)) (drop i s) ≡ true
-    → (remove s i ≡ after_item (Drop area key) s) × IsGap place_cmp i (area, key) (remove s i)
+    → (remove s i ≡ after_item (Drop area key) s) × IsFree place_cmp i (area, key) (remove s i)
 drop-there area i key s h p t = dropped-there place_cmp place_total same_place place_ties place_is i (area, key) s (first _ _ h) p t
 
 pub drop-missing : (area i : ℕ) (key : List ℕ) (s : Store) → is_store s ≡ true → IsSpot place_cmp i (area, key) s → first_is (λ (e : (ℕ × List ℕ) × List ℕ). same_place e.0 (area, key)) (drop i s) ≡ false
-    → (s ≡ after_item (Drop area key) s) × IsGap place_cmp i (area, key) s
+    → (s ≡ after_item (Drop area key) s) × IsFree place_cmp i (area, key) s
 drop-missing area i key s h p t = dropped-missing place_cmp place_total same_place place_ties place_is i (area, key) s (first _ _ h) p t
 
-pub put-dropped : (area i : ℕ) (key value : List ℕ) (s left : Store) → is_store s ≡ true → left ≡ after_item (Drop area key) s → IsGap place_cmp i (area, key) left
+pub put-dropped : (area i : ℕ) (key value : List ℕ) (s left : Store) → is_store s ≡ true → left ≡ after_item (Drop area key) s → IsFree place_cmp i (area, key) left
     → insert left i ((area, key), value) ≡ after_item (Put area key value) s
 put-dropped area i key value s left h e g =
     sym (put-gap place_cmp place_total i (area, key) value left g)

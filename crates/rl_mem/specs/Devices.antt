@@ -4,12 +4,13 @@ use Rattle.std.specs.Ordering.{nat_cmp}
 use Rattle.std.specs.FinMap.Entries as entries
 use Rattle.rl_mem.specs.Calls.{Counted}
 
--- the bytes that are left, or that were written, with the room that there is in all
-pub record Stream : Type 0 where
+-- a source: the bytes that are left, and its calls
+pub record SourceState : Type 0 where
   pub bytes : List ℕ
   pub calls : Counted
 
-pub record Written : Type 0 where
+-- a sink: the bytes that were written, its whole room, and its calls
+pub record SinkState : Type 0 where
   pub bytes : List ℕ
   pub room : ℕ
   pub calls : Counted
@@ -18,7 +19,7 @@ pub record Written : Type 0 where
 abbrev pub Numbered : Type 0
 Numbered = List (ℕ × List ℕ)
 
-pub record Shelf : Type 0 where
+pub record NumberedState : Type 0 where
   pub held : List (ℕ × List ℕ)
   pub calls : Counted
 

@@ -13,11 +13,11 @@ IsSpot R (suc i) k [] = ⊥
 IsSpot R (suc i) k (e ∷ es) = (R k e.0 ≡ Greater) × IsSpot R i k es
 
 -- the keys before this index are less than k, and those from there on are greater
-abbrev pub IsGap : {K X : Type 0} → (K → K → Ordering) → ℕ → K → List (K × X) → Type 0
-IsGap R zero k [] = ⊤
-IsGap R zero k (e ∷ es) = R k e.0 ≡ Less
-IsGap R (suc i) k [] = ⊥
-IsGap R (suc i) k (e ∷ es) = (R k e.0 ≡ Greater) × IsGap R i k es
+abbrev pub IsFree : {K X : Type 0} → (K → K → Ordering) → ℕ → K → List (K × X) → Type 0
+IsFree R zero k [] = ⊤
+IsFree R zero k (e ∷ es) = R k e.0 ≡ Less
+IsFree R (suc i) k [] = ⊥
+IsFree R (suc i) k (e ∷ es) = (R k e.0 ≡ Greater) × IsFree R i k es
 
 -- the keys before this index are not greater than k, and the one there is
 abbrev pub IsNext : {K X : Type 0} → (K → K → Ordering) → ℕ → K → List (K × X) → Type 0

@@ -43,7 +43,7 @@ impl SureArchive {
     #[tactic(auto, using(crate::proofs::Maps::maps))]
     pub fn put_log(&mut self, seq: u32, bytes: Vec<u8>) -> Result<(), NoMemory>
         ensures put { OnOk result (self.new ≡ with_one seq bytes.items self.old) }
-        ensures err { OnErr result (self.new ≡ self.old) }
+        ensures unchanged { OnErr result (self.new ≡ self.old) }
     {
         match self.logs.insert(seq, Bytes::of(bytes)) {
             Ok(_) => Ok(()),
@@ -104,9 +104,9 @@ pub struct MemArchive {
 }
 
 impl Model for MemArchive {
-    ghost use Rattle.rl_mem.specs.Devices.{Shelf};
+    ghost use Rattle.rl_mem.specs.Devices.{NumberedState};
 
-    ghost Value = { Shelf };
+    ghost Value = { NumberedState };
 
     ghost view = { λ a. record { held = a.archive; calls = a.calls } };
 }
@@ -126,7 +126,7 @@ impl MemArchive {
     /// Adds a log under this sequence, in the place of one that lies there. This is no call of the archive.
     pub fn put_log(&mut self, seq: u32, bytes: Vec<u8>) -> Result<(), NoMemory>
         ensures put { OnOk result (self.new.held ≡ with_one seq bytes.items self.old.held) }
-        ensures err { OnErr result (self.new.held ≡ self.old.held) }
+        ensures unchanged { OnErr result (self.new.held ≡ self.old.held) }
         ensures calls { self.new.calls ≡ self.old.calls }
     {
         self.archive.put_log(seq, bytes)

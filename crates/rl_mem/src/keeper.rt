@@ -37,7 +37,7 @@ impl SureKeeper {
     fn do_batch(&mut self, batch: &Batch) -> Result<(), NoMemory>
         requires keys { IsTrue (have_keys batch.now) }
         ensures done { OnOk result (pairs_of self.new ≡ after_batch batch.now (pairs_of self.old)) }
-        ensures err { OnErr result (pairs_of self.new ≡ pairs_of self.old) }
+        ensures unchanged { OnErr result (pairs_of self.new ≡ pairs_of self.old) }
     {
         let items = batch.copy()?.into_items();
         if self.rows.reserve(items.len()).is_err() {
@@ -108,7 +108,7 @@ impl MemKeeper {
     /// A commit that fails.
     fn fail(&mut self, batch: &Batch) -> Result<(), PortFault>
         requires keys { IsTrue (have_keys batch.now) }
-        ensures err { IsErr result }
+        ensures refused { IsErr result }
         ensures kept { IsErrOf result PortFault.Failed → pairs_in self.new ≡ (if keeps_of self.old then after_batch batch.now (pairs_in self.old) else pairs_in self.old) }
         ensures memory { IsErrOf result PortFault.Memory → pairs_in self.new ≡ pairs_in self.old }
         ensures calls { calls_of self.new ≡ calls_of self.old }

@@ -8,7 +8,7 @@ ghost use Rattle.std.specs.Option.{option_map};
 ghost use Rattle.std.specs.Ordering.{is_lt};
 ghost use Rattle.rl_ports.specs.Store.{Store, place_cmp, same_place, is_store, is_key, key_of, have_keys, after_item, after_batch, next_pair};
 ghost use Rattle.rl_ports.specs.declared.batch.Item.TheVariants.{Put as PutItem, Drop as DropItem};
-ghost use Rattle.rl_mem.specs.Places.{IsSpot, IsGap, IsNext, first_is, first_in};
+ghost use Rattle.rl_mem.specs.Places.{IsSpot, IsFree, IsNext, first_is, first_in};
 
 use rl_ports::{Item, Pair};
 use rl_value::{Bytes, NoMemory};
@@ -63,7 +63,7 @@ fn put_row(rows: &mut Vec<Row>, area: u8, key: Bytes, value: Bytes)
 fn drop_row(rows: &mut Vec<Row>, area: u8, key: &[u8]) -> usize
     requires store { IsTrue (is_store rows.old.items) }
     ensures done { rows.new.items ≡ after_item (DropItem area key.now) rows.old.items }
-    ensures gap { IsGap place_cmp result (area, key.now) rows.new.items }
+    ensures gap { IsFree place_cmp result (area, key.now) rows.new.items }
     ensures within { result ≤ vec_len rows.new }
     ensures size { vec_len rows.new ≤ vec_len rows.old }
     ensures room { vec_capacity rows.new ≡ vec_capacity rows.old }

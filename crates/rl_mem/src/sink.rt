@@ -24,9 +24,9 @@ pub struct MemSink {
 
 impl Model for MemSink {
     ghost use Rattle.std.specs.Prelude.{◌≤◌, length, vec_capacity};
-    ghost use Rattle.rl_mem.specs.Devices.{Written};
+    ghost use Rattle.rl_mem.specs.Devices.{SinkState};
 
-    ghost Value = { Written };
+    ghost Value = { SinkState };
 
     ghost view = { λ s. record { bytes = s.bytes.items; room = s.room; calls = s.calls } };
 

@@ -59,9 +59,9 @@ pub struct MemSource {
 }
 
 impl Model for MemSource {
-    ghost use Rattle.rl_mem.specs.Devices.{Stream};
+    ghost use Rattle.rl_mem.specs.Devices.{SourceState};
 
-    ghost Value = { Stream };
+    ghost Value = { SourceState };
 
     ghost view = { λ s. record { bytes = s.source; calls = s.calls } };
 }

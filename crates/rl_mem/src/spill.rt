@@ -100,9 +100,9 @@ pub struct MemSpill {
 }
 
 impl Model for MemSpill {
-    ghost use Rattle.rl_mem.specs.Devices.{Shelf};
+    ghost use Rattle.rl_mem.specs.Devices.{NumberedState};
 
-    ghost Value = { Shelf };
+    ghost Value = { NumberedState };
 
     ghost view = { λ s. record { held = s.spill; calls = s.calls } };
 }
@@ -133,7 +133,7 @@ impl Spill for MemSpill {
         ensures fails { IsErrOf result PortFault.Failed ↔ IsTrue (fails_next self.old.calls) }
         ensures counted { self.new.calls ≡ called self.old.calls }
         ensures put { OnOk result (Some self.new.held ≡ Some (with_chunk id bytes.now self.old.held)) }
-        ensures err { OnErr result (Some self.new.held ≡ Some self.old.held) }
+        ensures unchanged { OnErr result (Some self.new.held ≡ Some self.old.held) }
         ensures cause { HasPortCause self.old.calls.faults self.new.calls.faults result }
     {
         if self.calls.next() {
@@ -160,7 +160,7 @@ impl Spill for MemSpill {
         ensures fails { IsErr result ↔ IsTrue (fails_next self.old.calls) }
         ensures counted { self.new.calls ≡ called self.old.calls }
         ensures dropped { OnOk result (Some self.new.held ≡ Some (without id self.old.held)) }
-        ensures err { OnErr result (Some self.new.held ≡ Some self.old.held) }
+        ensures unchanged { OnErr result (Some self.new.held ≡ Some self.old.held) }
         ensures cause { HasCause self.old.calls.faults self.new.calls.faults result }
     {
         if self.calls.next() {
@@ -173,7 +173,7 @@ impl Spill for MemSpill {
         ensures fails { IsErr result ↔ IsTrue (fails_next self.old.calls) }
         ensures counted { self.new.calls ≡ called self.old.calls }
         ensures cleared { OnOk result (Some self.new.held ≡ Some []) }
-        ensures err { OnErr result (Some self.new.held ≡ Some self.old.held) }
+        ensures unchanged { OnErr result (Some self.new.held ≡ Some self.old.held) }
         ensures cause { HasCause self.old.calls.faults self.new.calls.faults result }
     {
         if self.calls.next() {

@@ -19,7 +19,7 @@ pub record HasPortCause {T : Type 0} (before now : ℕ) (result : Result T PortF
   pub later : before ≤ now
   pub failed : IsErrOf result ports.Failed → Rose before now
 
--- of a write that takes nothing of a piece, too
+-- where a write takes nothing of a piece that has a byte, the count rose, though the answer is no error
 abbrev pub CountsNothing : {E : Type 0} → ℕ → ℕ → Result ℕ E → List ℕ → Type 0
 CountsNothing before now result piece = IfOk result (λ n. n ≡ 0 → 0 < length piece → Rose before now)
 
@@ -28,7 +28,7 @@ abbrev pub Told : {T : Type 0} → Option T → (T → Type 0) → Type 0
 Told None P = ⊤
 Told (Some x) P = P x
 
--- the first n bytes that a read gave are those of the log from this place on, and 0 stands for its end
+-- the first n bytes that a read gave are those of the log from this offset on, and 0 stands for its end
 pub record ReadsLog (bytes : List ℕ) (at n : ℕ) (into : List ℕ) : Type 0 where
   pub given : take n into ≡ take n (drop at bytes)
   pub end : n ≡ 0 → 0 < length into → length bytes ≤ at

@@ -23,7 +23,7 @@ pub trait Spill {
     /// Puts a chunk. One that lies under this id is lost.
     fn put(&mut self, id: u64, bytes: &[u8]) -> Result<(), PortFault>
         ensures put { Told (chunks self.old) (λ old. OnOk result (chunks self.new ≡ Some (with_chunk id bytes.now old))) }
-        ensures err { OnErr result (chunks self.new ≡ chunks self.old) }
+        ensures unchanged { OnErr result (chunks self.new ≡ chunks self.old) }
         ensures cause { HasPortCause (faults self.old) (faults self.new) result };
 
     /// Reads the chunk that was put under this id and not dropped since. Its bytes take the place of what `into`
@@ -37,13 +37,13 @@ pub trait Spill {
     /// Drops the chunk that lies under this id. Where there is none, nothing changes.
     fn drop_id(&mut self, id: u64) -> Result<(), Failed>
         ensures dropped { Told (chunks self.old) (λ old. OnOk result (chunks self.new ≡ Some (without id old))) }
-        ensures err { OnErr result (chunks self.new ≡ chunks self.old) }
+        ensures unchanged { OnErr result (chunks self.new ≡ chunks self.old) }
         ensures cause { HasCause (faults self.old) (faults self.new) result };
 
     /// Drops all chunks.
     fn clear(&mut self) -> Result<(), Failed>
         ensures cleared { Told (chunks self.old) (λ _. OnOk result (chunks self.new ≡ Some [])) }
-        ensures err { OnErr result (chunks self.new ≡ chunks self.old) }
+        ensures unchanged { OnErr result (chunks self.new ≡ chunks self.old) }
         ensures cause { HasCause (faults self.old) (faults self.new) result };
 
     ghost telling: { (spill : Self) → is_some (chunks spill) ≡ tells };

@@ -9,7 +9,7 @@ pub record AppendsFront (old new : Option (List ℕ)) (bytes : List ℕ) : Type 
   pub whole : bytes ≡ front ++ rest
   pub written : Appends old new front
 
--- some bytes were taken from the front of what was left
-pub record ConsumesSome (old new : Option (List ℕ)) : Type 0 where
+-- bytes were taken from the front of what was left, or none
+pub record ConsumesFront (old new : Option (List ℕ)) : Type 0 where
   pub taken : List ℕ
   pub consumed : Consumes old new taken

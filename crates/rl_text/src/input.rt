@@ -2,7 +2,7 @@
 
 ghost use Rattle.std.specs.Prelude.{◌≡◌, ◌<◌, ◌≤◌, ◌+◌, length, take, drop, IfOk, OnOk, OnErr, Some, IsErrOf};
 ghost use Rattle.rl_ports.specs.Faults.{Rose, Told};
-ghost use Rattle.rl_text.specs.Written.{ConsumesSome};
+ghost use Rattle.rl_text.specs.Written.{ConsumesFront};
 
 use rl_ports::Source;
 use std::alloc::Global;
@@ -25,7 +25,7 @@ pub fn read_all<I: Source>(alloc: Global, input: &mut I, most: u64) -> Result<Ve
     ensures bytes { Told (I.left input.old) (λ bytes. IfOk result (λ read. read.items ≡ take (most + 1) bytes)) }
     ensures left { Told (I.left input.old) (λ bytes. OnOk result (I.left input.new ≡ Some (drop (most + 1) bytes))) }
     ensures size { IfOk result (λ read. length read.items ≤ most + 1) }
-    ensures taken { OnErr result (ConsumesSome (I.left input.old) (I.left input.new)) }
+    ensures taken { OnErr result (ConsumesFront (I.left input.old) (I.left input.new)) }
     ensures cause { IsErrOf result ReadFault.SourceFault → Rose (I.faults input.old) (I.faults input.new) }
     ensures later { I.faults input.old ≤ I.faults input.new }
 {

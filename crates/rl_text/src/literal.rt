@@ -27,7 +27,7 @@ const DELETE: u8 = 0x7F;
 /// Puts the literal of a value at the end of a line. It is read as that value.
 pub fn put_value(alloc: Global, line: &mut Line, value: &Value) -> Result<(), NoMemory>
     ensures put { OnOk result (line.new ≡ line.old ++ literal value.now) }
-    ensures err { OnErr result (line.new ≡ line.old) }
+    ensures unchanged { OnErr result (line.new ≡ line.old) }
     ensures literal { IsLiteralOf value.now (literal value.now) }
     ensures read { value_of_literal (literal value.now) ≡ Some value.now }
 {
@@ -41,7 +41,7 @@ pub fn put_value(alloc: Global, line: &mut Line, value: &Value) -> Result<(), No
 #[tactic(auto, using(crate::proofs::Texts::values_joined))]
 pub fn put_row(alloc: Global, line: &mut Line, row: &Row) -> Result<(), NoMemory>
     ensures put { OnOk result (line.new ≡ line.old ++ row_text row.now) }
-    ensures err { OnErr result (line.new ≡ line.old) }
+    ensures unchanged { OnErr result (line.new ≡ line.old) }
 {
     let mut text = Line::new(alloc);
     add_values(alloc, &mut text, b' ', row.values())?;
@@ -52,7 +52,7 @@ pub fn put_row(alloc: Global, line: &mut Line, row: &Row) -> Result<(), NoMemory
 #[tactic(auto, using(crate::proofs::Texts::values_joined))]
 pub fn put_key(alloc: Global, line: &mut Line, key: &Key) -> Result<(), NoMemory>
     ensures put { OnOk result (line.new ≡ line.old ++ key_text key.now.values) }
-    ensures err { OnErr result (line.new ≡ line.old) }
+    ensures unchanged { OnErr result (line.new ≡ line.old) }
 {
     let mut text = Line::new(alloc);
     text.push(b'(')?;
@@ -64,7 +64,7 @@ pub fn put_key(alloc: Global, line: &mut Line, key: &Key) -> Result<(), NoMemory
 /// Puts a transaction id at the end of a line: its three numbers with dots between.
 pub fn put_xid(alloc: Global, line: &mut Line, xid: Xid) -> Result<(), NoMemory>
     ensures put { OnOk result (line.new ≡ line.old ++ xid_text xid) }
-    ensures err { OnErr result (line.new ≡ line.old) }
+    ensures unchanged { OnErr result (line.new ≡ line.old) }
 {
     let mut text = Line::new(alloc);
     add_number(alloc, &mut text, u64::from(xid.usn))?;

@@ -11,7 +11,7 @@ use crate::guard::Held;
 use crate::meaning::{Names, Tagged};
 use crate::origin::{Named, Origin, Started};
 use crate::rule::{About, RuledTable, TableSeat};
-use crate::steps::{claim, cut, glue, lift, look, lower, release};
+use crate::steps::{claim, join_seats, lift, look, lower, release, split_seat};
 use crate::token::Seat;
 use atomic_table::{Refused, Table};
 use rl_value::NoMemory;
@@ -100,7 +100,7 @@ impl<V: Tagged> TagLock<V> {
         ensures given { IfOk result (λ given. given ≡ record seat.old { parts = 1 }) }
         ensures unchanged { IfErr result (λ _. seat.new ≡ seat.old) }
     {
-        let base = cut(&self.table, &mut seat.base);
+        let base = split_seat(&self.table, &mut seat.base);
         Ok(Seat { base })
     }
 
@@ -112,7 +112,7 @@ impl<V: Tagged> TagLock<V> {
     {
         let Seat { mut base } = into;
         let Seat { base: other } = other;
-        glue(&self.table, &mut base, other);
+        join_seats(&self.table, &mut base, other);
         Seat { base }
     }
 

@@ -20,7 +20,7 @@ pub trait Tagged {
 
     /// The rank of the value.
     fn rank(&self) -> u64
-        ensures { result ≡ height self.now };
+        ensures rank { result ≡ height self.now };
 }
 
 /// A value that names the tag which it stands for.

@@ -72,7 +72,7 @@ pub fn release<V: Tagged>(table: &RuledTable<V>, seat: &mut TableSeat<V>, rank: 
 }
 
 /// Split: one part goes to a new seat.
-pub fn cut<V: Tagged>(table: &RuledTable<V>, seat: &mut TableSeat<V>) -> TableSeat<V>
+pub fn split_seat<V: Tagged>(table: &RuledTable<V>, seat: &mut TableSeat<V>) -> TableSeat<V>
     requires table { IsSeatOf table.now.shared.table_id seat.old.table_id }
     requires two { 2 ≤ seat.old.me.0.parts }
     ensures kept { (seat.new.table_id ≡ seat.old.table_id) × (seat.new.me ≡ (cut_left seat.old.me.0, seat.old.me.1)) }
@@ -82,7 +82,7 @@ pub fn cut<V: Tagged>(table: &RuledTable<V>, seat: &mut TableSeat<V>) -> TableSe
 }
 
 /// Join: the parts of the other seat, which is idle, come to this one.
-pub fn glue<V: Tagged>(table: &RuledTable<V>, seat: &mut TableSeat<V>, other: TableSeat<V>)
+pub fn join_seats<V: Tagged>(table: &RuledTable<V>, seat: &mut TableSeat<V>, other: TableSeat<V>)
     requires table { IsSeatOf table.now.shared.table_id seat.old.table_id }
     requires part { 0 < seat.old.me.0.parts }
     requires other { (other.table_id ≡ seat.old.table_id) × (other.me.0.holding ≡ false) × (other.me.1 ≡ []) }
