@@ -1,6 +1,6 @@
 -- Alike: what may differ between two runs over the same redo.
--- A unique value that is taken may be found under another key of its owner by a change that is done early; all else is
--- determined.
+-- A unique value that is taken may be found at another owner, or under another key, by a change that is done early; all
+-- else is determined. No contract cites this so far.
 use Rattle.std.specs.Prelude.{◌≡◌}
 use Rattle.rl_value.specs.declared.key.Key.{Key}
 use Rattle.rl_value.specs.declared.miss.Miss.{Miss}

@@ -52,7 +52,8 @@ has_cell cells column = list_any (λ cell. cell.0 == column) cells
 abbrev pub beyond : TableRow → List (ℕ × Value) → Bool
 beyond t cells = list_any (λ cell. nat_le (length t.columns) cell.0) cells
 
--- an insert gives all new cells and no old one, a delete the other way round, and an update gives a new cell
+-- the cells are not those of the change's kind: an insert gives all new cells and no old one, a delete the other way
+-- round, and an update gives a new cell
 abbrev pub wrong_cells : TableRow → Op → List (ℕ × Value) → List (ℕ × Value) → Bool
 wrong_cells t Insert old new = not (is_empty old && (length new == length t.columns))
 wrong_cells t Update old new = is_empty new

@@ -1,6 +1,6 @@
 -- Conflict keys: the primary and unique keys that a change touches, old and new, as far as its cells give them.
--- Two changes that touch no common key do not depend on each other; what touches one is ordered by its commit. An INSERT
--- has no old keys and a DELETE no new ones; a unique key with a Null in it is none. This project's own.
+-- Two changes that touch no common key do not depend on each other; two that touch one are ordered by their commits. An
+-- INSERT has no old keys and a DELETE no new ones; a unique key with a Null in it is none. This project's own.
 use Rattle.std.specs.Prelude.{ℕ, List, [], ◌∷◌, ◌++◌, map, Bool, true, false, ◌&&◌, if◌then◌else◌, ◌==◌, nat_lt, Option, Some, None}
 use Rattle.std.specs.List.{list_any, flat_map, enumerate_from}
 use Rattle.rl_value.specs.declared.value.Value.{Value}

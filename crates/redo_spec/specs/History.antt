@@ -84,7 +84,8 @@ abbrev pub undone : Txn → Txn
 undone t = record t { survivors = after_undo t.survivors }
 
 -- A transaction of which only the COMMIT at this position is known, and which so has no changes here. There is none in
--- a redo from its first record on; behind a later record there is one for each transaction that began before it.
+-- a redo from its first record on; behind a later record there is one for each transaction that began before it and
+-- commits behind it.
 abbrev pub known_by_commit : Pos → Xid → Txn
 known_by_commit at x = record { start = at; xid = x; survivors = [] }
 

@@ -1,6 +1,7 @@
 -- The lock rule: no change touches a key that a surviving change of another open transaction touches.
 -- A row and a unique value are locked by the transaction that changed them until it ends, as in the primary database;
--- here the redo is tested for it. The rule looks at all open transactions as a whole. It is this project's own.
+-- here the redo is tested for it. The rule looks at all open transactions but the change's own. It is this
+-- project's own.
 use Rattle.std.specs.Prelude.{List, [], ◌∷◌, map, filter, not, ◌&&◌, if◌then◌else◌, Option, Some, None}
 use Rattle.std.specs.List.{list_any, flat_map}
 use Rattle.std.specs.Ordering.{eq_by_cmp, is_lt}

@@ -12,8 +12,8 @@ use Rattle.redo_spec.specs.Law.{Admitted, admission}
 abbrev pub front : ℕ → ℕ → List Entry → ℕ → Admitted
 front first base entries k = admission (beginning first base) (no_history 0) (take k entries)
 
--- There are so many records, and those up to m are well; and each transaction that is open behind them, or whose commit is numbered above n, began
--- behind record q.
+-- There are m records or more, the first m are well, and q is at most m. Each transaction that is open behind record m,
+-- or whose commit is numbered above n, began behind record q.
 pub record MarkFits (first base : ℕ) (entries : List Entry) (q m n : ℕ) : Type 0 where
   pub order : q ≤ m
   pub there : m ≤ length entries

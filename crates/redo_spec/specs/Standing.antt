@@ -1,7 +1,7 @@
 -- Standing: what the records so far leave for judging the next one, and nothing else.
--- Of an open transaction it has the conflict keys of each surviving change, and not the change itself; a commit leaves
--- its SCN alone. The whole history of the transactions stands beside it (`History`), and the two agree: each open
--- transaction has the keys of its survivors there.
+-- Of an open transaction it has the conflict keys of each surviving change, and not the change itself; of a commit it has
+-- the SCN and nothing else. The whole history of the transactions stands beside it (`History`), and the two agree: each
+-- open transaction has the keys of its survivors there.
 use Rattle.std.specs.Prelude.{ℕ, ◌+◌, List, [], ◌∷◌, ◌++◌, length, map, filter, Bool, not, if◌then◌else◌, Option, Some, None, sum_by}
 use Rattle.std.specs.List.{list_any}
 use Rattle.rl_value.specs.declared.key.Key.{Key}

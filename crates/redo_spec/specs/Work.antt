@@ -1,7 +1,8 @@
 -- Work: what an applier makes of a transaction's changes ahead of its commit.
 -- Work takes kept changes alone: a change that a skip rule passes over is left out before. Each change was done at some
 -- count, and finds the tables of that count with the rows in place that the earlier done changes wrote. Work is private to
--- its transaction until the commit is published. This project's own.
+-- its transaction until the commit is published. This project's own. No contract cites `work` and the writes so far; the
+-- rows of a table, the row at a key and the writing of one row are cited.
 use Rattle.std.specs.Prelude.{ℕ, List, [], ◌∷◌, ◌++◌, map, filter, not, ◌==◌, if◌then◌else◌, Option, Some, None, Result, Ok}
 use Rattle.std.specs.Ordering.{eq_by_cmp}
 use Rattle.std.specs.FinMap.Entries as entries

@@ -1,5 +1,5 @@
 //! The header of an archived log.
-/// The header of an archived log.
+/// What the first 40 bytes of a log say (docs/FORMATS.md).
 #[derive(Clone, Copy, Debug, PartialEq, Eq)]
 pub struct Header {
     /// The log sequence number.

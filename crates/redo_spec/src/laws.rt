@@ -101,7 +101,7 @@ pub fn the_first_bad_record_is_told()
         (admission s history entries).fault ≡ Some found → IsFirstBad s history entries found }
 {}
 
-/// A fold shows the tables of its count, and goes no further exactly before the first commit that may not be applied.
+/// A fold shows the tables of its count, and ends just before the first commit that may not be applied, or else at the last one.
 pub fn a_fold_shows_the_tables_of_its_count()
     ensures tables { (b : Base) (skips : List Skip) (commits : Commits) (stop : Stop) →
         tables_at b skips commits (folded b skips commits stop).n ≡ Ok (folded b skips commits stop).tables }

@@ -107,7 +107,7 @@ pub fn bad_transactions_are_malformed()
     ensures commit_scn { emp_end (rec 101 (start 1 ∷ start 2 ∷ []) ∷ commit 1 ∷ commit 2 ∷ []) ≡ codes "END 102 1 MALFORMED 4 SCN" }
 {}
 
-/// Each rule on a change, with a record that breaks it.
+/// Rules on a change's table and cells, each with a record that breaks it; and an update that keeps them.
 pub fn bad_changes_are_malformed()
     ensures no_table { emp_end (rec 101 (start 1 ∷ unknown_table ∷ []) ∷ []) ≡ codes "END 99 0 MALFORMED 2 NOTABLE" }
     ensures columns { emp_end (rec 101 (start 1 ∷ short_insert ∷ []) ∷ []) ≡ codes "END 99 0 MALFORMED 2 COLUMNS" }
@@ -137,7 +137,7 @@ pub fn logs_are_chained()
     ensures whole { two_logs_end 200 ≡ codes "END 99 0 DRAINED" }
 {}
 
-/// Each rule on the dictionary, with a record that breaks it.
+/// Rules on the dictionary, each with a record that breaks it; and the widest key.
 pub fn bad_dictionaries_are_malformed()
     ensures twice { dictionary_end (Table emp ∷ Table emp ∷ DictEnd ∷ []) ≡ codes "END 99 0 MALFORMED 1 TWICE" }
     ensures key_column { dictionary_end (Table (keyed ((2 ∷ []) ∷ [])) ∷ []) ≡ codes "END 99 0 MALFORMED 1 KEYS" }
@@ -275,12 +275,12 @@ pub fn skipped_table_shows_local_rows()
         ≡ codes "TABLE HR.EMP 1" ∷ codes "ROW 1 'A' NULL" ∷ codes "TABLE HR.AUDIT 1" ∷ codes "ROW 1 'x'" ∷ [] }
 {}
 
-/// The longest text.
+/// A text of 500 bytes, the longest, is read.
 pub fn longest_text_is_read()
     ensures longest { last_line (fold_bytes 1 (Some (long_text_log 500))) ≡ codes "END 102 1 DRAINED" }
 {}
 
-/// Each miss of an update and of a delete.
+/// Misses of updates and deletes; a row's own unique value is none.
 pub fn updates_and_deletes_miss()
     ensures absent { emp_end (rec 101 (start 1 ∷ OfChange (delete 1 ((0, n 1) ∷ (1, Null) ∷ (2, Null) ∷ [])) ∷ []) ∷ commit 1 ∷ [])
         ≡ codes "END 99 0 MISMATCH 102 2.2 HR.EMP ABSENT (1)" }
@@ -325,7 +325,7 @@ pub fn further_first_causes()
     ensures miss_before_bad_record { emp_end (existing_row ++ rec 105 (DictEnd ∷ []) ∷ []) ≡ codes "END 102 1 MISMATCH 104 4.2 HR.EMP EXISTS (1)" }
 {}
 
-/// So many rows may be live, and one more stops the fold.
+/// 2^20 rows may be live, and one more stops the fold.
 pub fn live_rows_have_a_limit()
     ensures most { stop_of 5 (Ok (2 ^ 20)) ≡ None }
     ensures one_more { stop_of 5 (Ok (2 ^ 20 + 1)) ≡ Some (RowLimit 5) }

@@ -5,7 +5,7 @@ use Rattle.redo_vec.specs.declared.columns.Kind.{Kind}
 use Rattle.redo_vec.specs.declared.columns.Kind.TheVariants as kinds
 use Rattle.redo_vec.specs.declared.columns.Column.{Column}
 
--- a text or a raw has up to 1 to 500 bytes
+-- the size of a text's or a raw value's type is 1 to 500
 abbrev pub is_kind : Kind → Bool
 is_kind kinds.Number = true
 is_kind (kinds.Text size) = nat_le 1 size && nat_le size 500

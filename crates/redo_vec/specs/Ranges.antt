@@ -1,5 +1,5 @@
 -- Which records have a spelling: each number fits its field, and each list its form.
--- A value of the code meets this by its type; a variable of a law has to be told.
+-- A value of the code meets all of this by its type but the length of the record; a variable of a law has to be told.
 use Rattle.std.specs.Prelude.{ℕ, ◌+◌, ◌≤◌, ◌<◌, ◌^◌, List, length, IsTrue, FitsSigned, ⊤}
 use Rattle.std.specs.Int.{w64}
 use Rattle.std.specs.List.{flat_map, AllByRecursion}

@@ -63,7 +63,7 @@ fn spelled(alloc: Global, rec: &RedoRec) -> Result<Vec<u8>, AllocError>
     Ok(out)
 }
 
-/// Spells a record, whose spelling may have 65,536 bytes.
+/// Spells a record, whose spelling has at most 65,536 bytes.
 pub fn encode_record(alloc: Global, rec: &RedoRec) -> Result<Vec<u8>, NoMemory>
     requires fits { length (record_bytes rec.now) ≤ 65536 }
     ensures spelled { IfOk result (λ bytes. bytes.items ≡ record_bytes rec.now) }

@@ -1,4 +1,4 @@
-//! Why a record cannot be decoded.
+//! Why a record is not decoded: its first fault, or want of memory.
 ghost use Rattle.std.specs.Prelude.{◌≡◌};
 ghost use Rattle.redo_vec.specs.declared.fault.DecodeFault.TheVariants.{Memory};
 
@@ -11,6 +11,7 @@ pub enum DecodeFault {
     /// The first refused field. Its place is the offset of its first byte in the record, in bytes; for a field
     /// that is not whole it is the record's length.
     Vector { fault: VecFault, place: u32 },
+    /// There is no memory.
     Memory,
 }
 

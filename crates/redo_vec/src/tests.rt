@@ -180,7 +180,7 @@ fn each_fault_is_told_at_its_place(rt: HostRuntime) -> Result<(), Fail> {
 
 #[test]
 fn each_kind_of_vector_comes_back(rt: HostRuntime) -> Result<(), Fail> {
-    let cases: [&[u8]; 8] = [
+    let cases: [&[u8]; 9] = [
         &[1, 0, 1, 0, 2, 0, 0, 0, 3],
         &[
             2, 0, 1, 0, 2, 0, 0, 0, 3, 0, 0, 0, 9, 0, 2, 0, 0, 31, 1, 255, 255, 255, 255, 255, 255,
@@ -191,6 +191,7 @@ fn each_kind_of_vector_comes_back(rt: HostRuntime) -> Result<(), Fail> {
         ],
         &[4, 0, 1, 0, 2, 0, 0, 0, 3, 0, 0, 0, 9, 1, 0, 0, 0],
         &[5, 255, 255, 0, 2, 0, 0, 0, 3],
+        &[6, 0, 1, 0, 2, 0, 0, 0, 3],
         &[7, 0, 1, 0, 2, 255, 255, 255, 255],
         &[
             8, 0, 0, 0, 1, 1, 65, 1, 66, 2, 1, 67, 2, 1, 0xf4, 1, 1, 68, 3, 0, 1, 0, 2, 0, 1, 1, 1,

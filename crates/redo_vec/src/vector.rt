@@ -7,7 +7,7 @@ use rl_value::{NoMemory, Xid};
 use std::marker::Model;
 
 /// `Undo` takes back the latest change of its transaction that still stands. `Table` and `DictEnd` are the
-/// dictionary at the head of the redo.
+/// dictionary at the front of the redo.
 #[derive(Debug, Drop)]
 pub enum Vector {
     Start(Xid),

@@ -2,7 +2,8 @@
 //!
 //! The first fault in byte order is the one that is answered, and after it nothing more is given. Bytes of a
 //! record that is not whole wait for the next piece: 65,535 of them at most. What a piece costs is linear in its
-//! bytes: waiting bytes are moved only when a record has ended in the piece.
+//! bytes and in those of the records that it completes: waiting bytes are moved only when a record has ended in the
+//! piece.
 ghost use Rattle.std.specs.Prelude.{◌≡◌, ◌+◌, ◌-◌, ◌*◌, ◌≤◌, ◌<◌, ◌^◌, length, drop, IfOk, OnOk, OnErr};
 ghost use Rattle.redo_wire.specs.Records.{AreFramed};
 ghost use Rattle.redo_wire.specs.Stream.{begun, given, fed, left_after, end_fault};
