@@ -5,7 +5,7 @@ use Rattle.std.specs.List.{AllWithin, insert, list_any}
 use Rattle.std.specs.List.Sorted.{IsPartitionedBy}
 use Rattle.rl_value.specs.Order.{same_bytes}
 use Rattle.redo_vec.specs.declared.table.TableRow.{TableRow}
-use Rattle.redo_dict.specs.Found.{if_named}
+use Rattle.redo_dict.specs.Found.{if_of_id}
 use Rattle.redo_spec.specs.Dictionary.{ids_rise, table_of, with_table, same_table}
 
 second : (a b : Bool) → (a || b) ≡ false → b ≡ false
@@ -51,7 +51,7 @@ none_below id from (t ∷ ts) e low =
 
 -- the table of an id stands where those with lower ids end, or nowhere
 pub found_at : (id from : ℕ) (ts : List TableRow) → ids_rise from ts ≡ true → (i : ℕ) →
-    AllWithin (λ t. nat_lt t.id id ≡ true) ts 0 i → AllWithin (λ t. nat_lt t.id id ≡ false) ts i (length ts) → if_named id (slice_get ts i) ≡ table_of ts id
+    AllWithin (λ t. nat_lt t.id id ≡ true) ts 0 i → AllWithin (λ t. nat_lt t.id id ≡ false) ts i (length ts) → if_of_id id (slice_get ts i) ≡ table_of ts id
 found_at id from [] e i low high = refl
 found_at id from (t ∷ ts) e zero low high =
     let parts = both (nat_le from t.id) (ids_rise (t.id + 1) ts) e in

@@ -1,7 +1,7 @@
 //! The dictionary as callers hold it.
 //!
-//! Its tables stand in rising order of their ids, so a table is found by binary search. What it takes and accepts is tested
-//! in `table_form` and `change_form`.
+//! Its tables stand in rising order of their ids, so a table is found by its id in a binary search; by its name all are
+//! looked at. What it takes and accepts is tested in `table_form`, `change_form` and `row_form`.
 ghost use Rattle.std.specs.Prelude.{◌≡◌, ◌≤◌, IsTrue, IfOk, IfSome, OnOk, OnErr, IsSome, Option, Some, None, length, false};
 ghost use Rattle.std.specs.Option.{option_map, option_copied};
 ghost use Rattle.redo_spec.specs.Dictionary.{Dictionary, no_dictionary, dictionary_after, table_fault, table_of, id_of, ids_rise, with_table, has_bad_keys};

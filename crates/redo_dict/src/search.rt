@@ -5,7 +5,7 @@ ghost use Rattle.std.specs.Option.{option_copied};
 ghost use Rattle.rl_value.specs.Order.{same_bytes};
 ghost use Rattle.redo_spec.specs.Dictionary.{ids_rise, table_of, id_of, same_table, with_table, has_bad_keys};
 ghost use Rattle.std.specs.List.{list_any};
-ghost use Rattle.redo_dict.specs.Found.{if_named};
+ghost use Rattle.redo_dict.specs.Found.{if_of_id};
 
 use crate::table_form::same;
 use redo_vec::TableRow;
@@ -16,7 +16,7 @@ fn is_below(table: &TableRow, id: u32) -> bool
     table.id < id
 }
 
-/// The place of the first table whose id is not below this one, or the number of tables.
+/// The index of the first table whose id is not below this one, or the number of tables.
 #[tactic(auto, using(crate::proofs::Rising::partitioned))]
 pub fn place_of(tables: &[TableRow], id: u32) -> usize
     requires { IsTrue (ids_rise 0 tables.now) }
@@ -26,8 +26,8 @@ pub fn place_of(tables: &[TableRow], id: u32) -> usize
     tables.partition_point(|table| is_below(table, id))
 }
 
-fn if_named_so(table: &TableRow, id: u32) -> Option<&TableRow>
-    ensures { option_copied result ≡ if_named id (Some table.now) }
+fn table_if_of_id(table: &TableRow, id: u32) -> Option<&TableRow>
+    ensures { option_copied result ≡ if_of_id id (Some table.now) }
 {
     if table.id == id { Some(table) } else { None }
 }
@@ -38,7 +38,7 @@ pub fn table_at(tables: &[TableRow], id: u32) -> Option<&TableRow>
     ensures { option_copied result ≡ table_of tables.now id }
 {
     match tables.get(place_of(tables, id)) {
-        Some(table) => if_named_so(table, id),
+        Some(table) => table_if_of_id(table, id),
         None => None,
     }
 }
@@ -59,7 +59,7 @@ pub fn id_at(tables: &[TableRow], schema: &[u8], name: &[u8]) -> Option<u32>
     }
 }
 
-/// Puts a new table in its place. Where memory is refused it comes back, and the others stay as they were.
+/// Puts a new table where it goes. Where memory is refused it comes back, and the others stay as they were.
 #[tactic(auto, using(crate::proofs::Rising::inserted_at, crate::proofs::Rising::rises_with, crate::proofs::Keys::keys_with))]
 pub fn insert_table(tables: &mut Vec<TableRow>, table: TableRow) -> Result<(), TableRow>
     requires rising { IsTrue (ids_rise 0 tables.old.items) }

@@ -50,7 +50,7 @@ fn dictionary(alloc: Global) -> Result<Dict, Fail> {
     let mut dict = Dict::new(alloc);
     let taken = dict.add(table(alloc)?).is_ok();
     if !taken {
-        return Ok(Dict::new(alloc));
+        return Err(Fail::from("table refused"));
     }
     Ok(dict)
 }
@@ -69,7 +69,7 @@ fn a_table_is_taken_once(rt: HostRuntime) -> Result<(), Fail> {
 fn a_table_is_found_by_its_names(rt: HostRuntime) -> Result<(), Fail> {
     let dict = dictionary(rt.alloc())?;
     let (Some(schema), Some(name)) = (Name::of(b"T"), Name::of(b"A")) else {
-        return Ok(());
+        return Err(Fail::from("no name"));
     };
     assert_eq!(rt; dict.resolve(&schema, &name), Some(1));
     assert_eq!(rt; dict.resolve(&name, &schema), None);

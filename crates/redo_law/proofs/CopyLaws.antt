@@ -15,7 +15,7 @@ use Rattle.redo_spec.specs.Standing.{OpenTxn}
 use Rattle.redo_law.specs.declared.hold.Hold.{Hold}
 use Rattle.redo_law.specs.declared.survivors.Open.{Open}
 use Rattle.redo_law.specs.declared.table.Table.{Table}
-use Rattle.redo_law.specs.Held.{pos_cmp, xid_cmp, own_place}
+use Rattle.redo_law.specs.Held.{pos_cmp, xid_cmp, own_change}
 use Rattle.redo_law.specs.OpenTable.{opened_all, Keeps, IsTable}
 use Rattle.redo_law.specs.Seen.{BeganBy}
 
@@ -47,7 +47,7 @@ copied_table t u h xids txns locks survivors =
       ids = λ x. ap (λ (es : List (Xid × Pos)). lookup (is_at (xid_cmp x)) es) xids ∙ h.ids x;
       apart = h.apart;
       ordered = subst (λ (es : List (Pos × Open)). IsStrictlySortedBy pos_cmp (keys_of es)) (sym txns) h.ordered;
-      holds = λ k x. h.holds k x ∙ ap (λ (es : List (Key × Hold)). own_place x (lookup (is_at (key_cmp k)) es)) (sym locks);
+      holds = λ k x. h.holds k x ∙ ap (λ (es : List (Key × Hold)). own_change x (lookup (is_at (key_cmp k)) es)) (sym locks);
       count = survivors ∙ h.count;
     })
 

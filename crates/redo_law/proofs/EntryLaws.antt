@@ -16,7 +16,7 @@ use Rattle.redo_spec.specs.Standing.{OpenTxn, with_open, closed}
 use Rattle.redo_law.specs.declared.survivors.Open.{Open}
 use Rattle.redo_law.specs.Calls.{open_of}
 use Rattle.redo_law.specs.Held.{pos_cmp, xid_cmp, Apart}
-use Rattle.redo_law.specs.OpenTable.{opened, opened_all, changes_of, BeganBefore}
+use Rattle.redo_law.specs.OpenTable.{opened, opened_all, change_count, BeganBefore}
 use Rattle.redo_law.proofs.Ids.{pos_total, xid_is, xid_at}
 use Rattle.redo_law.proofs.OpenList.{Keeps, with_open_none, closed_none, open_after_push, open_changed, open_beside_changed, open_closed, open_beside_closed}
 
@@ -107,24 +107,24 @@ inserted_last at o (g ∷ es) before =
 
 -- ---- how many surviving changes there are
 
-pub count_cons : (t : OpenTxn) (ts : List OpenTxn) → changes_of (t ∷ ts) ≡ length t.keys + changes_of ts
-count_cons t ts = sum_by-append (λ (u : OpenTxn). length u.keys) (t ∷ []) ts ∙ (let e : 0 + length t.keys + changes_of ts ≡ length t.keys + changes_of ts = omega arith in e)
+pub count_cons : (t : OpenTxn) (ts : List OpenTxn) → change_count (t ∷ ts) ≡ length t.keys + change_count ts
+count_cons t ts = sum_by-append (λ (u : OpenTxn). length u.keys) (t ∷ []) ts ∙ (let e : 0 + length t.keys + change_count ts ≡ length t.keys + change_count ts = omega arith in e)
 
-pub count_push : (ts : List OpenTxn) (t : OpenTxn) → changes_of (ts ++ t ∷ []) ≡ changes_of ts + length t.keys
-count_push ts t = sum_by-append (λ (u : OpenTxn). length u.keys) ts (t ∷ []) ∙ (let e : changes_of ts + (0 + length t.keys) ≡ changes_of ts + length t.keys = omega arith in e)
+pub count_push : (ts : List OpenTxn) (t : OpenTxn) → change_count (ts ++ t ∷ []) ≡ change_count ts + length t.keys
+count_push ts t = sum_by-append (λ (u : OpenTxn). length u.keys) ts (t ∷ []) ∙ (let e : change_count ts + (0 + length t.keys) ≡ change_count ts + length t.keys = omega arith in e)
 
 none_later : (x i : Xid) (ts : List OpenTxn) → same_xid i x ≡ true → open_of i ts ≡ None → open_of x ts ≡ None
 none_later x i ts own e = ap (λ j. open_of j ts) (sym (xid_is i x own)) ∙ e
 
-pub count_changed : (f : OpenTxn → OpenTxn) (x : Xid) (ts : List OpenTxn) (t : OpenTxn) → Apart ts → open_of x ts ≡ Some t → changes_of (with_open f x ts) + length t.keys ≡ changes_of ts + length (f t).keys
+pub count_changed : (f : OpenTxn → OpenTxn) (x : Xid) (ts : List OpenTxn) (t : OpenTxn) → Apart ts → open_of x ts ≡ Some t → change_count (with_open f x ts) + length t.keys ≡ change_count ts + length (f t).keys
 count_changed f x [] t apart e = absurd (cc)
 count_changed f x (u ∷ us) t apart e =
-    elim (same_xid u.xid x) as (λ b. same_xid u.xid x ≡ b → cond b (Some u) (open_of x us) ≡ Some t → changes_of (cond b (f u) u ∷ with_open f x us) + length t.keys ≡ changes_of (u ∷ us) + length (f t).keys) [
+    elim (same_xid u.xid x) as (λ b. same_xid u.xid x ≡ b → cond b (Some u) (open_of x us) ≡ Some t → change_count (cond b (f u) u ∷ with_open f x us) + length t.keys ≡ change_count (u ∷ us) + length (f t).keys) [
       | true ↦ λ own h.
           let here : u ≡ t = some_is u t h in
           let rest : with_open f x us ≡ us = with_open_none f x us (none_later x u.xid us own apart.0) in
-          let a : changes_of (f u ∷ with_open f x us) ≡ length (f t).keys + changes_of us = ap (λ vs. changes_of (f u ∷ vs)) rest ∙ ap (λ v. changes_of (f v ∷ us)) here ∙ count_cons (f t) us in
-          let b : changes_of (u ∷ us) ≡ length t.keys + changes_of us = ap (λ v. changes_of (v ∷ us)) here ∙ count_cons t us in
+          let a : change_count (f u ∷ with_open f x us) ≡ length (f t).keys + change_count us = ap (λ vs. change_count (f u ∷ vs)) rest ∙ ap (λ v. change_count (f v ∷ us)) here ∙ count_cons (f t) us in
+          let b : change_count (u ∷ us) ≡ length t.keys + change_count us = ap (λ v. change_count (v ∷ us)) here ∙ count_cons t us in
           omega (arith, a, b)
       | false ↦ λ own h.
           let a = count_cons u (with_open f x us) in
@@ -133,14 +133,14 @@ count_changed f x (u ∷ us) t apart e =
           omega (arith, a, b, rest)
     ] refl e
 
-pub count_closed : (x : Xid) (ts : List OpenTxn) (t : OpenTxn) → Apart ts → open_of x ts ≡ Some t → changes_of (closed x ts) + length t.keys ≡ changes_of ts
+pub count_closed : (x : Xid) (ts : List OpenTxn) (t : OpenTxn) → Apart ts → open_of x ts ≡ Some t → change_count (closed x ts) + length t.keys ≡ change_count ts
 count_closed x [] t apart e = absurd (cc)
 count_closed x (u ∷ us) t apart e =
-    elim (same_xid u.xid x) as (λ b. same_xid u.xid x ≡ b → cond b (Some u) (open_of x us) ≡ Some t → changes_of (cond (not b) (u ∷ closed x us) (closed x us)) + length t.keys ≡ changes_of (u ∷ us)) [
+    elim (same_xid u.xid x) as (λ b. same_xid u.xid x ≡ b → cond b (Some u) (open_of x us) ≡ Some t → change_count (cond (not b) (u ∷ closed x us) (closed x us)) + length t.keys ≡ change_count (u ∷ us)) [
       | true ↦ λ own h.
           let here : u ≡ t = some_is u t h in
-          let a : changes_of (closed x us) ≡ changes_of us = ap changes_of (closed_none x us (none_later x u.xid us own apart.0)) in
-          let b : changes_of (u ∷ us) ≡ length t.keys + changes_of us = ap (λ v. changes_of (v ∷ us)) here ∙ count_cons t us in
+          let a : change_count (closed x us) ≡ change_count us = ap change_count (closed_none x us (none_later x u.xid us own apart.0)) in
+          let b : change_count (u ∷ us) ≡ length t.keys + change_count us = ap (λ v. change_count (v ∷ us)) here ∙ count_cons t us in
           omega (arith, a, b)
       | false ↦ λ own h.
           let a = count_cons u (closed x us) in

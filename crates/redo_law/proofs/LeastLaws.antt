@@ -12,7 +12,7 @@ use Rattle.redo_spec.specs.Locks.{held_keys, least, lesser}
 use Rattle.redo_spec.specs.Standing.{OpenTxn}
 use Rattle.redo_law.specs.declared.hold.Hold.{Hold}
 use Rattle.redo_law.specs.Calls.{open_of}
-use Rattle.redo_law.specs.Held.{Holds, has_key, first_from, place_in, own_place, if_blocked, blocked, kept_out, Apart}
+use Rattle.redo_law.specs.Held.{Holds, has_key, first_from, change_in, own_change, if_blocked, blocked, kept_out, Apart}
 use Rattle.redo_law.proofs.Exact.{key_exact, key_is, key_itself}
 use Rattle.redo_law.proofs.Ids.{both, xid_is, xid_itself}
 use Rattle.redo_law.proofs.OpenList.{found_id}
@@ -320,18 +320,18 @@ blocked_in holds x (l ∷ ls) k h held other among = elim among as (λ m. IsIn (
 ]
 
 -- the hold is the one of the transaction that is found
-own_is : (x : Xid) (o : Option Hold) (i : ℕ) → own_place x o ≡ Some i → (h : Hold) × (o ≡ Some h) × (h.holder ≡ x)
+own_is : (x : Xid) (o : Option Hold) (i : ℕ) → own_change x o ≡ Some i → (h : Hold) × (o ≡ Some h) × (h.holder ≡ x)
 own_is x None i e = absurd (cc)
 own_is x (Some h) i e =
-    elim (same_xid h.holder x) as (λ b. same_xid h.holder x ≡ b → cond b (Some h.place) None ≡ Some i → (g : Hold) × (Some h ≡ Some g) × (g.holder ≡ x)) [
+    elim (same_xid h.holder x) as (λ b. same_xid h.holder x ≡ b → cond b (Some h.change) None ≡ Some i → (g : Hold) × (Some h ≡ Some g) × (g.holder ≡ x)) [
       | true ↦ λ is f. (h, refl, xid_is h.holder x is)
       | false ↦ λ is f. absurd (cc)
     ] refl e
 
--- a found place is that of a touching change of an open transaction
-place_is : (k : Key) (o : Option OpenTxn) (i : ℕ) → place_in k o ≡ Some i → (t : OpenTxn) × (o ≡ Some t) × (list_any (has_key k) t.keys ≡ true)
-place_is k None i e = absurd (cc)
-place_is k (Some t) i e =
+-- a found change is a touching one of an open transaction
+change_is : (k : Key) (o : Option OpenTxn) (i : ℕ) → change_in k o ≡ Some i → (t : OpenTxn) × (o ≡ Some t) × (list_any (has_key k) t.keys ≡ true)
+change_is k None i e = absurd (cc)
+change_is k (Some t) i e =
     elim (list_any (has_key k) t.keys) as (λ b. list_any (has_key k) t.keys ≡ b → (u : OpenTxn) × (Some t ≡ Some u) × (list_any (has_key k) u.keys ≡ true)) [
       | true ↦ λ is. (t, refl, is)
       | false ↦ λ is. not_none i (first_from k 0 t.keys) e (first_none k 0 t.keys is)
@@ -350,9 +350,9 @@ keeps_out x ks k = not (same_xid k.1 x) && list_any (eq_by_cmp key_cmp k.0) ks
 
 out_from_blocked : (holds : Key → Option Hold) (x : Xid) (ks : List Key) (ts : List OpenTxn) → Holds holds ts → (p : Key × Xid) → IsBlocked holds x ks p → IsIn p (kept_out x ks ts)
 out_from_blocked holds x ks ts h p b =
-    let place : place_in p.0 (open_of b.hold.holder ts) ≡ Some b.hold.place =
-    h p.0 b.hold.holder ∙ ap (own_place b.hold.holder) b.held ∙ ap (λ c. cond c (Some b.hold.place) None) (xid_itself b.hold.holder) in
-    let t = place_is p.0 (open_of b.hold.holder ts) b.hold.place place in
+    let first : change_in p.0 (open_of b.hold.holder ts) ≡ Some b.hold.change =
+    h p.0 b.hold.holder ∙ ap (own_change b.hold.holder) b.held ∙ ap (λ c. cond c (Some b.hold.change) None) (xid_itself b.hold.holder) in
+    let t = change_is p.0 (open_of b.hold.holder ts) b.hold.change first in
     let id : p.1 ≡ t.0.xid = b.holder ∙ sym (found_id b.hold.holder ts t.0 t.1) in
     let pair : (p.0, t.0.xid) ≡ p = ap (λ i. (p.0, i)) (sym id) in
     filter_in (keeps_out x ks) p (held_keys ts)
@@ -365,8 +365,8 @@ blocked_from_out holds x ks ts h a p among =
     let held = in_held p ts parts.0 in
     let tests = both (not (same_xid p.1 x)) (list_any (eq_by_cmp key_cmp p.0) ks) parts.1 in
     let found = in_open ts a held.txn held.among in
-    let place = first_some p.0 0 held.txn.keys held.touched in
-    let own = own_is held.txn.xid (holds p.0) place.0 (sym (h p.0 held.txn.xid) ∙ ap (place_in p.0) found ∙ place.1) in
+    let first = first_some p.0 0 held.txn.keys held.touched in
+    let own = own_is held.txn.xid (holds p.0) first.0 (sym (h p.0 held.txn.xid) ∙ ap (change_in p.0) found ∙ first.1) in
     let id : own.0.holder ≡ p.1 = own.2 ∙ sym held.holder in
     let pair : (p.0, own.0.holder) ≡ p = ap (λ i. (p.0, i)) id in
     subst (λ (q : Key × Xid). IsIn q (blocked holds x ks)) pair

@@ -110,7 +110,7 @@ touch_list t es x ks start h l is =
 
 pub touch_table : (t u : Table) (x : Xid) (ks : List Key) (start : Pos) → IsTable t → (l : Located t x start) → least (kept_out x ks (txns_of t)) ≡ None →
     u.txns.entries ≡ set_value (is_at (pos_cmp start)) t.txns.entries (more_keys ks l.txn) → tree.IsOrdered pos_cmp u.txns → u.xids ≡ t.xids →
-    ((q : Key) → tree.get key_cmp u.locks q ≡ taken (tree.get key_cmp t.locks) ks (record { holder = l.txn.xid; place = length l.txn.keys }) q) → u.survivors ≡ t.survivors + 1 → IsTable u
+    ((q : Key) → tree.get key_cmp u.locks q ≡ taken (tree.get key_cmp t.locks) ks (record { holder = l.txn.xid; change = length l.txn.keys }) q) → u.survivors ≡ t.survivors + 1 → IsTable u
 touch_table t u x ks start h l free is ordered ids locks survivors =
     let ts = txns_of t in
     let was = opened (start, l.txn) in
@@ -120,7 +120,7 @@ touch_table t u x ks start h l free is ordered ids locks survivors =
       apart = apart_changed (touching ks) (λ v. refl) x ts h.apart;
       ordered = ordered;
       holds = holds_touch holds (tree.get key_cmp u.locks) x ks ts was l.found h.holds (λ k g. free_of_blocked holds x ks (least_blocked holds x ks ts h.holds h.apart ∙ free) k g)
-          (λ q. locks q ∙ ap (λ i. taken holds ks (record { holder = i; place = length l.txn.keys }) q) l.id);
+          (λ q. locks q ∙ ap (λ i. taken holds ks (record { holder = i; change = length l.txn.keys }) q) l.id);
       count =
           let one : length (l.txn.keys ++ ks ∷ []) ≡ length l.txn.keys + 1 = length-append l.txn.keys (ks ∷ []) in
           let more = count_changed (touching ks) x ts was h.apart l.found in

@@ -34,24 +34,24 @@ first_from k n [] = None
 first_from k n (ks ∷ more) = cond (has_key k ks) (Some n) (first_from k (n + 1) more)
 
 -- the first change of a transaction that touches the key, if it is open
-abbrev pub place_in : Key → Option OpenTxn → Option ℕ
-place_in k None = None
-place_in k (Some t) = first_from k 0 t.keys
+abbrev pub change_in : Key → Option OpenTxn → Option ℕ
+change_in k None = None
+change_in k (Some t) = first_from k 0 t.keys
 
--- the place of the hold, where it is this transaction's
-abbrev pub own_place : Xid → Option Hold → Option ℕ
-own_place x None = None
-own_place x (Some h) = cond (same_xid h.holder x) (Some h.place) None
+-- the change of the hold, where it is this transaction's
+abbrev pub own_change : Xid → Option Hold → Option ℕ
+own_change x None = None
+own_change x (Some h) = cond (same_xid h.holder x) (Some h.change) None
 
 -- Each key is held by the one open transaction of which a surviving change touches it, from the first such change on,
 -- and by none where there is none.
 abbrev pub Holds : (Key → Option Hold) → List OpenTxn → Type 0
-Holds holds ts = (k : Key) (x : Xid) → place_in k (open_of x ts) ≡ own_place x (holds k)
+Holds holds ts = (k : Key) (x : Xid) → change_in k (open_of x ts) ≡ own_change x (holds k)
 
 -- it is the hold of this transaction from this change on
 abbrev pub is_hold : Xid → ℕ → Option Hold → Bool
 is_hold x n None = false
-is_hold x n (Some h) = same_xid h.holder x && (h.place == n)
+is_hold x n (Some h) = same_xid h.holder x && (h.change == n)
 
 -- the key in front, where another than this transaction holds it
 abbrev pub if_blocked : Xid → Key → Option Hold → List (Key × Xid) → List (Key × Xid)

@@ -28,8 +28,8 @@ abbrev pub txns_of : Table → List OpenTxn
 txns_of t = opened_all t.txns.entries
 
 -- how many surviving changes they have
-abbrev pub changes_of : List OpenTxn → ℕ
-changes_of ts = sum_by (λ t. length t.keys) ts
+abbrev pub change_count : List OpenTxn → ℕ
+change_count ts = sum_by (λ t. length t.keys) ts
 
 -- a table keeps these transactions, and its parts fit each other
 pub record Keeps (t : Table) (ts : List OpenTxn) : Type 0 where
@@ -37,7 +37,7 @@ pub record Keeps (t : Table) (ts : List OpenTxn) : Type 0 where
   pub apart : Apart ts
   pub ordered : tree.IsOrdered pos_cmp t.txns
   pub holds : Holds (tree.get key_cmp t.locks) ts
-  pub count : t.survivors ≡ changes_of ts
+  pub count : t.survivors ≡ change_count ts
 
 abbrev pub IsTable : Table → Type 0
 IsTable t = Keeps t (txns_of t)

@@ -1,4 +1,4 @@
-//! Who holds a key.
+//! A key's hold: its transaction, and the change that took it.
 use rl_value::Xid;
 
 /// Who holds a key.
@@ -7,5 +7,5 @@ pub struct Hold {
     /// The transaction.
     pub holder: Xid,
     /// Its first surviving change that touches the key, counted from 0.
-    pub place: usize,
+    pub change: usize,
 }

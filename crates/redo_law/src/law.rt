@@ -66,8 +66,9 @@ impl Law {
         Ok(Law { state })
     }
 
-    /// Takes the next record of the redo, in a log of this header. After a refusal the law is spent: of its calls only
-    /// `dict` and `into_dict` follow. They have then the tables of the vectors before the refused one.
+    /// Takes the next record of the redo, in a log of this header. After a refusal nothing is said of the standing but the
+    /// dictionary: that of the vectors before the refused one, none of them where the record is refused as a whole. After want
+    /// of memory nothing is said of that either.
     pub fn admit(&mut self, head: &Header, rec: &RedoRec) -> Result<(), AdmitFault>
         requires room { self.old.rec + 1 < 2 ^ 64 }
         ensures admitted { OnOk result (self.new ≡ record_after (head.now, rec.now) self.old) }

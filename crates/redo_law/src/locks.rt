@@ -49,16 +49,16 @@ pub fn take_keys(locks: &mut BTreeMap<Key, Hold>, keys: &[Key], hold: Hold) -> R
 }
 
 fn is_from(hold: Option<&Hold>, from: Hold) -> bool
-    ensures { result ≡ is_hold from.holder from.place (option_copied hold.entry) }
+    ensures { result ≡ is_hold from.holder from.change (option_copied hold.entry) }
 {
     match hold {
         None => false,
-        Some(hold) => is_same(hold.holder, from.holder) && hold.place == from.place,
+        Some(hold) => is_same(hold.holder, from.holder) && hold.change == from.change,
     }
 }
 
 fn free_key_of(locks: &mut BTreeMap<Key, Hold>, key: &Key, from: Hold)
-    ensures { (q : Key) → tree.get key_cmp locks.new q ≡ freed_at (tree.get key_cmp locks.old) (key.now ∷ []) from.holder from.place q }
+    ensures { (q : Key) → tree.get key_cmp locks.new q ≡ freed_at (tree.get key_cmp locks.old) (key.now ∷ []) from.holder from.change q }
 {
     if is_from(locks.get(key), from) {
         let _ = locks.remove(key);
@@ -67,7 +67,7 @@ fn free_key_of(locks: &mut BTreeMap<Key, Hold>, key: &Key, from: Hold)
 
 /// Frees the keys that were taken so.
 pub fn free_keys_of(locks: &mut BTreeMap<Key, Hold>, keys: &[Key], from: Hold)
-    ensures { (q : Key) → tree.get key_cmp locks.new q ≡ freed_at (tree.get key_cmp locks.old) keys.now from.holder from.place q }
+    ensures { (q : Key) → tree.get key_cmp locks.new q ≡ freed_at (tree.get key_cmp locks.old) keys.now from.holder from.change q }
 {
     let mut rest = keys;
     while let [first, others @ ..] = rest {

@@ -11,7 +11,7 @@ use rl_value::{NoMemory, Scn};
 pub struct LawStart {
     /// The log sequence number of the standby's first log, in which the dictionary stands.
     pub first: u32,
-    /// Where the SCNs of the redo begin: the SCN before the first of the first log. No record is judged by it.
+    /// The SCN before the first of the first log. It is kept for callers; no call of the law reads it.
     pub base: Scn,
     /// The dictionary that the records before have left.
     pub dict: Dict,
@@ -19,7 +19,7 @@ pub struct LawStart {
     pub head: Option<Header>,
     /// How many records stand before.
     pub rec: u64,
-    /// The last record in which a transaction may have a vector whose START stands before.
+    /// The last record that may have a vector of a transaction whose START stands before.
     pub known: u64,
     /// The SCN of record `rec`; the base's where `rec` is 0. No later record has a lower one.
     pub scn: Scn,

@@ -1,7 +1,8 @@
 //! The open transactions as they are kept.
 //!
 //! Each stands by the position of its START, so that those of a standing come in order. An id leads to its START, and each
-//! key that is touched to its holder, so that no call walks over the open transactions or their changes.
+//! key that is touched to its holder, so that no test walks over the open transactions or their changes. An end walks over
+//! its own transaction's.
 ghost use Rattle.std.specs.Prelude.{◌≡◌, ◌++◌, ◌∷◌, [], ◌<◌, ◌≤◌, ◌^◌, length, OnOk, IfOk, Option, None, ◌&&◌};
 ghost use Rattle.std.specs.BTreeMap as tree;
 ghost use Rattle.rl_value.specs.Order.{key_cmp};
@@ -14,7 +15,7 @@ ghost use Rattle.rl_value.specs.Outcome.{is_empty};
 ghost use Rattle.redo_spec.specs.History.{same_xid};
 ghost use Rattle.redo_law.specs.Calls.{open_of, start_rec};
 ghost use Rattle.redo_law.specs.Held.{taken, kept_out};
-ghost use Rattle.redo_law.specs.OpenTable.{IsTable, BeganBefore, GivesBack, txns_of, changes_of};
+ghost use Rattle.redo_law.specs.OpenTable.{IsTable, BeganBefore, GivesBack, txns_of, change_count};
 
 use crate::copies::{copied_locks, copied_txns, copied_xids};
 use crate::hold::Hold;
@@ -83,7 +84,7 @@ impl Table {
     /// How many surviving changes there are.
     pub fn count(&self) -> u64
         requires { IsTable self.now }
-        ensures { result ≡ changes_of (txns_of self.now) }
+        ensures { result ≡ change_count (txns_of self.now) }
     {
         self.survivors
     }
@@ -151,7 +152,7 @@ impl Table {
     pub fn touch(&mut self, xid: Xid, keys: Vec<Key>) -> Result<(), NoMemory>
         requires table { IsTable self.old }
         requires free { least (kept_out xid keys.items (txns_of self.old)) ≡ None }
-        requires room { changes_of (txns_of self.old) < 2 ^ 19 }
+        requires room { change_count (txns_of self.old) < 2 ^ 19 }
         ensures table { OnOk result (IsTable self.new) }
         ensures touched { OnOk result (txns_of self.new ≡ with_open (touching keys.items) xid (txns_of self.old)) }
     {
@@ -215,11 +216,11 @@ fn has_none(changes: &[TouchedKeys]) -> bool
 // The transaction makes a change that touches these keys, and takes those that are free.
 fn take(txn: &mut Open, locks: &mut BTreeMap<Key, Hold>, keys: Vec<Key>) -> Result<(), NoMemory>
     ensures keys { OnOk result (txn.new ≡ record txn.old { keys = txn.old.keys ++ keys.items ∷ [] }) }
-    ensures locks { OnOk result ((q : Key) → tree.get key_cmp locks.new q ≡ taken (tree.get key_cmp locks.old) keys.items (record { holder = txn.old.xid; place = length txn.old.keys }) q) }
+    ensures locks { OnOk result ((q : Key) → tree.get key_cmp locks.new q ≡ taken (tree.get key_cmp locks.old) keys.items (record { holder = txn.old.xid; change = length txn.old.keys }) q) }
 {
     let hold = Hold {
         holder: txn.xid,
-        place: txn.keys.items().len(),
+        change: txn.keys.items().len(),
     };
     take_keys(locks, keys.as_slice(), hold)?;
     txn.keys.push(TouchedKeys::of(keys))
@@ -234,7 +235,7 @@ fn give_back(txn: &mut Open, locks: &mut BTreeMap<Key, Hold>) -> u64
     };
     let from = Hold {
         holder: txn.xid,
-        place: txn.keys.items().len(),
+        change: txn.keys.items().len(),
     };
     free_keys_of(locks, keys.items(), from);
     1

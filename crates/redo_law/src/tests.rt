@@ -416,7 +416,7 @@ fn a_copy_has_the_open_transactions(rt: HostRuntime) -> Result<(), Fail> {
 }
 
 #[test]
-fn a_change_touches_its_keys(rt: HostRuntime) -> Result<(), Fail> {
+fn a_change_touches_a_key_of_each_index(rt: HostRuntime) -> Result<(), Fail> {
     let alloc = rt.alloc();
     let dict = whole(alloc)?;
     let change = insert(alloc, 3, Value::Number(7), Value::Number(8))?;
@@ -425,5 +425,6 @@ fn a_change_touches_its_keys(rt: HostRuntime) -> Result<(), Fail> {
     };
     let keys = touch(alloc, &dict, &change)?;
     assert_eq!(rt; keys.items().len(), 2);
+    assert_eq!(rt; (keys.items()[0].index, keys.items()[1].index), (0, 1));
     Ok(())
 }

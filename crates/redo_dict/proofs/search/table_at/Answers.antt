@@ -1,17 +1,17 @@
 use Rattle.std.proofs.Common.{ap, sym, ◌∙◌, Some}
-use Rattle.redo_dict.specs.Found.{if_named}
+use Rattle.redo_dict.specs.Found.{if_of_id}
 use Rattle.redo_dict.proofs.Rising.{found_at, read_at, past_end}
 use Rattle.redo_dict.proofs.search.table_at.Goals as goal
 
 pub returns-in-Some : goal.returns-in-Some
 returns-in-Some c =
     let read = c.in-Some.ensures.lookup in
-    c.if_named_so.ensures
-    ∙ ap (λ t. if_named c.args.id (Some t)) read.1
-    ∙ sym (ap (if_named c.args.id) (read_at c.args.tables.now c.place_of.result c.in-Some.table.now read.3.0))
+    c.table_if_of_id.ensures
+    ∙ ap (λ t. if_of_id c.args.id (Some t)) read.1
+    ∙ sym (ap (if_of_id c.args.id) (read_at c.args.tables.now c.place_of.result c.in-Some.table.now read.3.0))
     ∙ found_at c.args.id 0 c.args.tables.now c.requires c.place_of.result c.place_of.ensures.between.0 c.place_of.ensures.between.1
 
 pub returns-in-None : goal.returns-in-None
 returns-in-None c =
-    sym (ap (if_named c.args.id) (past_end c.args.tables.now c.place_of.result c.in-None.ensures.lookup.3))
+    sym (ap (if_of_id c.args.id) (past_end c.args.tables.now c.place_of.result c.in-None.ensures.lookup.3))
     ∙ found_at c.args.id 0 c.args.tables.now c.requires c.place_of.result c.place_of.ensures.between.0 c.place_of.ensures.between.1

@@ -26,7 +26,7 @@ returns-in_ok-take-in-Some-get_mut-clause-table c =
     touch_table c.args.self.now _ c.args.xid c.args.keys.items c.in-Some.start.now c.requires.table l c.requires.free
     (through.0 ∙ ap (set_value (is_at (pos_cmp c.in-Some.start.now)) c.args.self.now.txns.entries) (c.in_ok-take-in-Some-get_mut.ensures.keys ∙ ap (more_keys c.args.keys.items) same))
     through.4 refl
-    (λ q. c.in_ok-take-in-Some-get_mut.ensures.locks q ∙ ap (λ o. taken (tree.get key_cmp c.args.self.now.locks) c.args.keys.items (record { holder = o.xid; place = length o.keys }) q) same)
+    (λ q. c.in_ok-take-in-Some-get_mut.ensures.locks q ∙ ap (λ o. taken (tree.get key_cmp c.args.self.now.locks) c.args.keys.items (record { holder = o.xid; change = length o.keys }) q) same)
     refl
 
 pub returns-in_ok-take-in-Some-get_mut-clause-touched : goal.returns-in_ok-take-in-Some-get_mut-clause-touched
