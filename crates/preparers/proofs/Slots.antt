@@ -1,4 +1,4 @@
--- A fact of each slot and its number: at the end, at one place, behind the first slot.
+-- A fact of each slot and its number: at the end, at one index, behind the first slot.
 use Rattle.std.proofs.Common.{◌≡◌, ℕ, zero, suc, ◌+◌, List, [], ◌∷◌, ◌++◌, length, drop, refl, arith}
 use Rattle.std.specs.Prelude.{slice_get, slice_set, Some}
 use Rattle.redo_wire.specs.declared.raw.Raw.{Raw}
@@ -13,7 +13,7 @@ pub each-snoc : (P : ℕ → Slot → Type 0) (n m : ℕ) (xs : List Slot) (x : 
 each-snoc P n m [] x q e p = let h : n ≡ m = omega (arith, q) in (rw h p, tt)
 each-snoc P n m (y ∷ ys) x q e p = (e.0, each-snoc P (n + 1) m ys x (omega (arith, q)) e.1 p)
 
--- another slot at this place
+-- another slot at this index
 pub each-set : (P : ℕ → Slot → Type 0) (n m : ℕ) (xs : List Slot) (k : ℕ) (x : Slot) → m ≡ n + k → Each P n xs → P m x → Each P n (slice_set xs k x)
 each-set P n m [] k x q e p = tt
 each-set P n m (y ∷ ys) zero x q e p = let h : n ≡ m = omega (arith, q) in (rw h p, e.1)

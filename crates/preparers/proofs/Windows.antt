@@ -35,7 +35,7 @@ window-set w m k x q i n h =
       fits = rw (length-set-slot w.slots k x) i.fits;
     }
 
--- the slots once the cut record at this place is given away are those in which its number is lent
+-- the slots once the cut record at this index is given away are those in which its number is lent
 pub lends : (w : Pending) (k : ℕ) (raw : Raw) → IsWindow w → raw_at w.slots k ≡ Some raw → pending w.first (lent_at w.slots k) ≡ lent (Some raw) w
 lends w k raw i g =
     let n : raw.rec - w.first ≡ k = omega (arith, each-raw HasNumber w.first (w.first + k) w.slots k raw refl i.numbered g) in

@@ -1,4 +1,5 @@
-//! Decodes cut records side by side, and gives the pieces in the order of their records.
+//! Decodes a cut record, and keeps records in a window, which takes their pieces in any order and gives them in that of
+//! their numbers.
 #![tactic(auto)]
 
 mod laws;

@@ -1,4 +1,4 @@
-//! A place of the window: one record, as far as it has come.
+//! A slot of the window: one record, as far as it has come.
 
 ghost use Rattle.std.specs.Prelude.{◌≡◌, IfOk, is_some};
 ghost use Rattle.preparers.specs.Pieces.{raw_in, lent_slot, is_lent_slot, prepared_slot};

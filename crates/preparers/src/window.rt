@@ -1,7 +1,7 @@
 //! The prepare window: records come in by number, are decoded in any order, and go out by number.
 //!
 //! A record is cut, then lent to a preparer, then prepared. At most 64 are in the window. The room for all of them
-//! is taken when the window is made, so that no later call takes memory.
+//! is taken when the window is made, so that no call that changes it takes memory.
 
 ghost use Rattle.std.specs.Prelude.{◌≡◌, ◌≤◌, [], length, All, Ok, IfOk, IfSome};
 ghost use Rattle.redo_vec.specs.Cutting.{first_record};

@@ -31,6 +31,7 @@ impl Cut {
 pub enum CutError {
     /// A call of the archive failed.
     ArchiveFault,
+    /// There is no memory.
     Memory,
 }
 

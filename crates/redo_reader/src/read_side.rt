@@ -83,7 +83,7 @@ fn done_in(registry: &Registry, place: Place) -> u32
 impl<A: Archive> ReadSide<A> {
     /// The reading side of this archive with these registered logs, before the record behind this place.
     ///
-    /// Where more records of its log stand before the place than the log has, all of them do; an offset of 2^62 or
+    /// A place that has more records of its log before it than the log has is taken as having all of them; an offset of 2^62 or
     /// more is taken as 2^62 - 1. Nothing is read yet. A refusal gives the archive back.
     pub fn new(
         alloc: Global,

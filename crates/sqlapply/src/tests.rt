@@ -32,7 +32,7 @@ const COMMIT: [u8; 23] = [
 /// Transactions of the log. With 71 bytes each it has more than two blocks of 65,536 bytes.
 const TRANSACTIONS: u16 = 2000;
 
-/// The base SCN and then two SCNs a transaction.
+/// The SCN of the first transaction's insert. Each transaction has two SCNs, its insert's and its commit's.
 const FIRST: u64 = 101;
 
 fn front_of(count: u16) -> [u8; 75] {

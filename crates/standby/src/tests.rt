@@ -1,4 +1,4 @@
-//! Whole commands over small devices: each end of a fold, all kinds of words, devices that fail.
+//! Whole commands over small devices: ends of a fold but the row limit, all kinds of words, devices that fail.
 //!
 //! Expected lines and statuses come from the formats and the table of answers (docs/FORMATS.md, README.md).
 ghost use Rattle.std.specs.Prelude.{None, Some, false, refl};
@@ -284,7 +284,7 @@ fn check(rt: &impl Abort, alloc: Global, case: &Case) -> Result<(), Fail> {
 }
 
 #[test]
-fn each_end_of_a_fold_has_its_status_and_its_lines(rt: HostRuntime) -> Result<(), Fail> {
+fn ends_of_a_fold_have_their_status_and_lines(rt: HostRuntime) -> Result<(), Fail> {
     let cases = [
         with_room(&["fold", "1"], Held::First, 0, LINES),
         with_room(

@@ -1,5 +1,5 @@
 //! The words with which a run's end is told: its verdict, and what caused it.
-//! Names come from the tables that are known. Words: docs/FORMATS.md, "Printed lines".
+//! Names come from the dictionary that the records leave, whole or not. Words: docs/FORMATS.md, "Printed lines".
 ghost use Rattle.std.specs.Prelude.{◌≡◌, ◌++◌, ◌∷◌, [], OnOk};
 ghost use Rattle.std.specs.Fmt.{decimal};
 ghost use Rattle.rl_value.specs.Literal.{literal, key_text, xid_text};
