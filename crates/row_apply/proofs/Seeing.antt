@@ -120,8 +120,8 @@ module _ (tables : Tables) (w : Written) (t : TableRow) (key : Key) (columns : L
       owner_of-in tables t key (ap (table_of (definitions_of tables)) same ∙ ready.there)
       ∙ (λ i. owner_in (rows_of tables (same i)) (column_list t.keys key.index columns s i) key.values)
 
-  pub rival_written : (owner : List Value) → written_owner (slots_of w) (owners_of w) key columns ≡ Some owner → unless gone owner ≡ owner_in (minus gone (rows_seen tables (slots_of w) t)) columns key.values
-  rival_written owner e =
+  pub other_owner_written : (owner : List Value) → written_owner (slots_of w) (owners_of w) key columns ≡ Some owner → unless gone owner ≡ owner_in (minus gone (rows_seen tables (slots_of w) t)) columns key.values
+  other_owner_written owner e =
       let owns_it : OwnsWritten (slots_of w) t.id columns key.values owner =
       subst (λ (id : ℕ). OwnsWritten (slots_of w) id columns key.values owner) same (written_owns (slots_of w) key columns (owner_at (owners_of w) key) owner e) in
       sym (owner_written gone (slots_of w) t.id (rows_of tables t.id) columns key.values owner ready.kept.slots (to_T _ ready.sound.rising) one_seen full owns_it)
@@ -129,13 +129,13 @@ module _ (tables : Tables) (w : Written) (t : TableRow) (key : Key) (columns : L
   nobody : written_owner (slots_of w) (owners_of w) key columns ≡ None → IsUnowned (slots_of w) t.id columns key.values
   nobody e = subst (λ (id : ℕ). IsUnowned (slots_of w) id columns key.values) same (untold (slots_of w) (owners_of w) (indexed_of w) t key columns ready.kept.index ready.indexed same some s full e)
 
-  pub rival_nowhere : written_owner (slots_of w) (owners_of w) key columns ≡ None → owner_of tables key ≡ None → None ≡ owner_in (minus gone (rows_seen tables (slots_of w) t)) columns key.values
-  rival_nowhere e none =
+  pub other_owner_nowhere : written_owner (slots_of w) (owners_of w) key columns ≡ None → owner_of tables key ≡ None → None ≡ owner_in (minus gone (rows_seen tables (slots_of w) t)) columns key.values
+  other_owner_nowhere e none =
       sym (owner_nowhere gone (slots_of w) t.id (rows_of tables t.id) columns key.values ready.kept.slots (to_T _ ready.sound.rising) (nobody e) (sym owner_base ∙ none))
 
-  pub rival_beneath : (owner : List Value) → written_owner (slots_of w) (owners_of w) key columns ≡ None → owner_of tables key ≡ Some owner →
+  pub other_owner_beneath : (owner : List Value) → written_owner (slots_of w) (owners_of w) key columns ≡ None → owner_of tables key ≡ Some owner →
       if_beneath (slots_of w) t.id gone owner ≡ owner_in (minus gone (rows_seen tables (slots_of w) t)) columns key.values
-  rival_beneath owner e is =
+  other_owner_beneath owner e is =
       sym (owner_beneath gone (slots_of w) t.id (rows_of tables t.id) columns key.values owner ready.kept.slots (to_T _ base_rows.rising) one_beneath (to_T _ ready.sound.rising) one_seen full (nobody e)
       (sym owner_base ∙ is))
 

@@ -1,13 +1,12 @@
 -- Written rows in place of those beneath: the tables after a list of writes, each of which puts a row in the place of the
 -- one with its primary key, or takes that one away. This project's own.
-use Rattle.std.specs.Prelude.{◌≡◌, ℕ, List, [], ◌∷◌, Bool, false, map, not, ◌==◌, if◌then◌else◌, Option, Some, None, is_some}
+use Rattle.std.specs.Prelude.{◌≡◌, ℕ, List, [], ◌∷◌, Bool, false, map, ◌==◌, if◌then◌else◌, Option, Some, is_some}
 use Rattle.std.specs.List.{find, list_all, list_any, AllByRecursion}
 use Rattle.std.specs.Option.{option_map}
-use Rattle.std.specs.Ordering.{eq_by_cmp, is_eq}
-use Rattle.std.specs.FinMap.Entries as entries
+use Rattle.std.specs.Ordering.{is_eq}
 use Rattle.rl_value.specs.declared.value.Value.{Value}
 use Rattle.rl_value.specs.declared.key.Key.{Key}
-use Rattle.rl_value.specs.Order.{row_cmp, key_cmp, keys_rise}
+use Rattle.rl_value.specs.Order.{key_cmp, keys_rise}
 use Rattle.redo_vec.specs.declared.table.TableRow.{TableRow}
 use Rattle.redo_spec.specs.Dictionary.{table_of}
 use Rattle.redo_spec.specs.Tables.{Rows, Table, Tables}

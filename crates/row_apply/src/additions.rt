@@ -15,7 +15,7 @@ ghost use Rattle.row_apply.specs.Soundness.{AreSound, AreSoundRows};
 
 use crate::fault::EffectFault;
 use crate::key_values::primary_key;
-use crate::rivals::check_uniques;
+use crate::other_owners::check_uniques;
 use crate::rows::Rows;
 use crate::seen::found;
 use crate::written::Written;

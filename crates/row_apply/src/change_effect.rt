@@ -154,7 +154,8 @@ fn change_rows<R: Rows>(
 }
 
 /// Does the change to the rows of the base with those of the overlay in place. The overlay takes what it writes, and the
-/// base stays as it is. The cost is logarithmic in the rows, but for the first change of a table.
+/// base stays as it is. The cost is logarithmic in the rows, but for the first change of a table in an overlay, a snapshot, or
+/// after want of memory: it looks at all written rows.
 pub fn effect<R: Rows>(
     base: &R,
     dict: &Dict,

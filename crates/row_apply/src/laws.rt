@@ -50,7 +50,7 @@ pub fn a_write_is_of_one_row()
 {}
 
 /// Values of rows, and keys, that the order does not tell apart are the same.
-pub fn what_ties_is_the_same()
+pub fn equal_in_order_is_equal()
     ensures rows { (one other : List Value) → IsTrue (eq_by_cmp row_cmp one other) ↔ (one ≡ other) }
     ensures keys { (one other : Key) → IsTrue (eq_by_cmp key_cmp one other) ↔ (one ≡ other) }
 {}

@@ -9,8 +9,8 @@ mod index;
 mod key_values;
 pub mod laws;
 mod new_rows;
+mod other_owners;
 mod overlay;
-mod rivals;
 mod rows;
 mod seen;
 #[cfg(test)]

@@ -5,7 +5,7 @@ use Rattle.redo_spec.specs.Effect.{taken_by}
 use Rattle.row_apply.specs.Adding.{minus, values_of}
 use Rattle.row_apply.specs.Kept.{rows_seen}
 use Rattle.row_apply.specs.KeptIn.{slots_of}
-use Rattle.row_apply.proofs.rivals.check_uniques.Given as goal
+use Rattle.row_apply.proofs.other_owners.check_uniques.Given as goal
 
 -- the unique keys that are left decide
 abbrev pub invariant-loop-keys : goal.invariant-loop-keys

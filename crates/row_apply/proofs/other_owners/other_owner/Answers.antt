@@ -4,13 +4,13 @@ use Rattle.std.specs.Option.{option_copied}
 use Rattle.rl_value.specs.declared.value.Value.{Value}
 use Rattle.redo_spec.specs.Tables.{definitions_of}
 use Rattle.row_apply.specs.Adding.{values_of}
-use Rattle.row_apply.proofs.Seeing.{rival_written, rival_nowhere, rival_beneath, key_there}
-use Rattle.row_apply.proofs.rivals.rival.Goals as goal
+use Rattle.row_apply.proofs.Seeing.{other_owner_written, other_owner_nowhere, other_owner_beneath, key_there}
+use Rattle.row_apply.proofs.other_owners.other_owner.Goals as goal
 
 pub returns-in-Some : goal.returns-in-Some
 returns-in-Some g c =
     c.other_than.ensures
-    ∙ rival_written (g.R.Rows.tables c.args.base.now) c.args.over.now c.args.table.now c.args.key.now c.args.columns.now (values_of c.args.gone.now) c.requires.ready c.requires.table c.requires.unique
+    ∙ other_owner_written (g.R.Rows.tables c.args.base.now) c.args.over.now c.args.table.now c.args.key.now c.args.columns.now (values_of c.args.gone.now) c.requires.ready c.requires.table c.requires.unique
     c.requires.columns c.requires.filled c.in-Some.owner.now (sym c.in-Some.ensures)
 
 pub owner-requires-clause-there : goal.owner-requires-clause-there
@@ -19,11 +19,11 @@ owner-requires-clause-there g c =
 
 pub returns-in-None-owner : goal.returns-in-None-owner
 returns-in-None-owner g c =
-    rival_nowhere (g.R.Rows.tables c.args.base.now) c.args.over.now c.args.table.now c.args.key.now c.args.columns.now (values_of c.args.gone.now) c.requires.ready c.requires.table c.requires.unique
+    other_owner_nowhere (g.R.Rows.tables c.args.base.now) c.args.over.now c.args.table.now c.args.key.now c.args.columns.now (values_of c.args.gone.now) c.requires.ready c.requires.table c.requires.unique
     c.requires.columns c.requires.filled (sym c.in-None.ensures) (sym c.in-None-owner.ensures.owner)
 
 pub returns-in-Some-owner : goal.returns-in-Some-owner
 returns-in-Some-owner g c =
-    let is = rival_beneath (g.R.Rows.tables c.args.base.now) c.args.over.now c.args.table.now c.args.key.now c.args.columns.now (values_of c.args.gone.now) c.requires.ready c.requires.table c.requires.unique
+    let is = other_owner_beneath (g.R.Rows.tables c.args.base.now) c.args.over.now c.args.table.now c.args.key.now c.args.columns.now (values_of c.args.gone.now) c.requires.ready c.requires.table c.requires.unique
     c.requires.columns c.requires.filled c.in-Some-owner.beneath.now (sym c.in-None.ensures) (sym c.in-Some-owner.ensures.owner) in
     subst (λ (o : Option (List Value)). IfOk c.owner_left.result (λ left. option_copied left ≡ o)) is c.owner_left.ensures

@@ -103,7 +103,7 @@ fn owner_left<'a>(
 }
 
 /// The key of another row that has this value of a unique key.
-fn rival<'a, R: Rows>(
+fn other_owner<'a, R: Rows>(
     base: &'a R,
     over: &'a Written,
     table: &TableRow,
@@ -168,7 +168,7 @@ fn check_unique<R: Rows>(
         index,
         values,
     };
-    match rival(base, over, table, gone, &key, columns.items()) {
+    match other_owner(base, over, table, gone, &key, columns.items()) {
         Err(NoMemory) => Err(EffectFault::Memory),
         Ok(None) => Ok(()),
         Ok(Some(owner)) => Err(taken(table.id, index, owner)),

@@ -4,7 +4,7 @@ use Rattle.rl_value.specs.declared.value.Value.{Value}
 use Rattle.rl_value.specs.declared.key.Key.{Key}
 use Rattle.rl_value.specs.Order.{row_cmp, key_cmp}
 use Rattle.row_apply.proofs.Orders.{row_is, row_self, key_is, key_self}
-use Rattle.row_apply.proofs.laws.what_ties_is_the_same.Goals as goal
+use Rattle.row_apply.proofs.laws.equal_in_order_is_equal.Goals as goal
 
 pub returns : goal.returns
 returns c = record {
