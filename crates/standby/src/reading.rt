@@ -2,7 +2,7 @@
 //!
 //! A record that doesn't decode ends the redo, and so does what the reading side tells behind the last one. Where the fold
 //! has ended before, by a bad record, a miss or the row limit, no more is read. No more of a log is held than the block that
-//! is read, and the records that it completes.
+//! is read, the records that it completes, and up to 65,535 bytes of a record that is not whole.
 ghost use Rattle.std.specs.Prelude.{◌≡◌, ◌≤◌, ◌<◌, ◌+◌, ◌^◌, [], IfOk, OnOk, Err, None, Ok};
 ghost use Rattle.rl_ports.specs.Faults.{Told, Rose};
 ghost use Rattle.redo_vec.specs.Cutting.{first_record};
@@ -26,6 +26,7 @@ use std::alloc::Global;
 pub enum FoldFault {
     /// A call of the archive failed.
     Failed,
+    /// There is no memory.
     Memory,
 }
 
