@@ -5,7 +5,7 @@ use Rattle.rl_base.specs.declared.status.Status.TheVariants as statuses
 use Rattle.rl_base.specs.Status.{code_of}
 use Rattle.standby.specs.declared.command.Command.{Command}
 use Rattle.standby.specs.declared.command.Command.TheVariants.{Wrong, Later}
-use Rattle.standby.specs.Answers.{Comes, IsEnd, FoldsWhole, IsArchiveFault, IsSinkFault, SaysFault, fault_word}
+use Rattle.standby.specs.Answers.{Comes, IsEnd, FoldsWhole, IsArchiveFault, IsSinkFault, SaysFault, fault_line}
 
 -- There is a status with this code, and it is one of the command's: a device's fault where the count of the archive's or of
 -- the sink's faults rose.
@@ -18,4 +18,4 @@ pub record EndsWith (command : Command) (logs : Option (ℕ → Option (List ℕ
   pub not_built : (status ≡ statuses.NotBuilt) ↔ (command ≡ Later)
   pub archive_fault : status ≡ statuses.ArchiveFault → IsArchiveFault command archive_rose
   pub sink_fault : status ≡ statuses.SinkFault → IsSinkFault command logs old new sink_rose
-  pub last_line : SaysFault (fault_word status) old new sink_rose
+  pub last_line : SaysFault (fault_line status) old new sink_rose

@@ -6,7 +6,7 @@ use std::env::{Env, FillError};
 // Bytes that are tried first for a word.
 const SHORT: usize = 64;
 
-// What so many bytes take of the word at a place: all of it, or not, or there is no word.
+// What so many bytes take of the word at an index: all of it, or not, or there is no word.
 enum Word {
     Whole(Vec<u8>),
     Longer,
@@ -30,7 +30,7 @@ fn word_within<E: Env>(
     }
 }
 
-// The word at this place, if there is one.
+// The word at this index, if there is one.
 fn word_at<E: Env>(env: &E, alloc: Global, place: usize) -> Result<Option<Bytes>, AllocError> {
     let mut most = SHORT;
     for _ in 0..usize::BITS {

@@ -12,7 +12,7 @@ use Rattle.primary.specs.Starts.{shown}
 use Rattle.standby.specs.declared.fold.Printout.{Printout}
 use Rattle.standby.specs.declared.reading.FoldFault.{FoldFault}
 use Rattle.standby.specs.Printout.{IsPrintoutOf, IsWritten, IsPrefix, IsPrefixWritten}
-use Rattle.standby.specs.Answers.{Prints, PrintsPrefix, IsEnd, SaysFault, end_status, fault_word}
+use Rattle.standby.specs.Answers.{Prints, PrintsPrefix, IsEnd, SaysFault, end_status, fault_line}
 use Rattle.standby.specs.Writing.{AppendsPrefix}
 
 -- a prefix of the text was written
@@ -58,7 +58,7 @@ ends folded (Ok p) out = ended-of folded p out
 ends folded (Err fault) out = tt
 
 -- an end of a run has no line of its own
-pub says-nothing : (s : Status) (old new : Option (List ℕ)) (P : Type 0) → IsEnd s → SaysFault (fault_word s) old new P
+pub says-nothing : (s : Status) (old new : Option (List ℕ)) (P : Type 0) → IsEnd s → SaysFault (fault_line s) old new P
 says-nothing statuses.Done old new P end = tt
 says-nothing statuses.Gap old new P end = tt
 says-nothing statuses.Malformed old new P end = tt

@@ -95,15 +95,15 @@ pub record IsSinkFault (command : Command) (logs : Option (ℕ → Option (List 
 -- ---- the last line
 
 -- the last line of a status that ends the command at once
-abbrev pub fault_word : Status → Option (List ℕ)
-fault_word statuses.Usage = Some (codes "FAULT USAGE")
-fault_word statuses.ArchiveFault = Some (codes "FAULT ARCHIVE")
-fault_word statuses.SourceFault = Some (codes "FAULT SOURCE")
-fault_word statuses.KeeperFault = Some (codes "FAULT KEEPER")
-fault_word statuses.SpillFault = Some (codes "FAULT SPILL")
-fault_word statuses.Memory = Some (codes "FAULT MEMORY")
-fault_word statuses.NotBuilt = Some (codes "FAULT NOTBUILT")
-fault_word other = None
+abbrev pub fault_line : Status → Option (List ℕ)
+fault_line statuses.Usage = Some (codes "FAULT USAGE")
+fault_line statuses.ArchiveFault = Some (codes "FAULT ARCHIVE")
+fault_line statuses.SourceFault = Some (codes "FAULT SOURCE")
+fault_line statuses.KeeperFault = Some (codes "FAULT KEEPER")
+fault_line statuses.SpillFault = Some (codes "FAULT SPILL")
+fault_line statuses.Memory = Some (codes "FAULT MEMORY")
+fault_line statuses.NotBuilt = Some (codes "FAULT NOTBUILT")
+fault_line other = None
 
 -- this line and nothing else was written, as far as the sink took it
 abbrev pub SaysFault : Option (List ℕ) → Option (List ℕ) → Option (List ℕ) → Type 0 → Type 0

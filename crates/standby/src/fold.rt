@@ -5,7 +5,7 @@ ghost use Rattle.std.specs.Prelude.{◌≡◌, ◌≤◌, ◌≢◌, ◌↔◌, 
 ghost use Rattle.rl_ports.specs.Faults.{Rose, Told};
 ghost use Rattle.standby.specs.Printout.{IsPrintoutOf, IsWritten, IsPrefixWritten};
 ghost use Rattle.standby.specs.declared.reading.FoldFault.TheVariants.{Failed as FoldFailed, Memory as FoldMemory};
-ghost use Rattle.standby.specs.Answers.{Comes, IsEnd, Prints, PrintsPrefix, SaysFault, fault_word, end_status};
+ghost use Rattle.standby.specs.Answers.{Comes, IsEnd, Prints, PrintsPrefix, SaysFault, fault_line, end_status};
 
 use crate::finished::Finished;
 use crate::folding::{FoldedLog, folded_log};
@@ -72,7 +72,7 @@ fn answer<O: Sink>(out: &mut O, printout: Result<Printout, FoldFault>) -> Status
     ensures memory { (result ≡ Status.Memory) ↔ (printout ≡ Err FoldMemory) }
     ensures sink_rose { result ≡ Status.SinkFault → Rose (O.faults out.old) (O.faults out.new) }
     ensures sink_fault { result ≡ Status.SinkFault → IsPrefixWritten printout (O.written out.old) (O.written out.new) }
-    ensures last_line { SaysFault (fault_word result) (O.written out.old) (O.written out.new)
+    ensures last_line { SaysFault (fault_line result) (O.written out.old) (O.written out.new)
         (Rose (O.faults out.old) (O.faults out.new)) }
     ensures sink_count { O.faults out.old ≤ O.faults out.new }
 {
@@ -107,7 +107,7 @@ pub fn fold<O: Sink, A: Archive>(alloc: Global, seq: u32, out: &mut O, archive: 
     ensures sink_rose { result.status ≡ Status.SinkFault → Rose (O.faults out.old) (O.faults out.new) }
     ensures sink_fault { result.status ≡ Status.SinkFault → Told (A.logs archive)
         (λ logs. PrintsPrefix logs seq (O.written out.old) (O.written out.new)) }
-    ensures last_line { SaysFault (fault_word result.status) (O.written out.old) (O.written out.new)
+    ensures last_line { SaysFault (fault_line result.status) (O.written out.old) (O.written out.new)
         (Rose (O.faults out.old) (O.faults out.new)) }
 {
     let FoldedLog { folded, archive } = folded_log(alloc, seq, archive);

@@ -6,7 +6,7 @@ ghost use Rattle.std.specs.Prelude.{◌≡◌, ◌≤◌, ◌↔◌};
 ghost use Rattle.rl_ports.specs.Faults.{Rose};
 ghost use Rattle.standby.specs.Command.{command_of};
 ghost use Rattle.standby.specs.declared.command.Command.TheVariants.{Later, Wrong};
-ghost use Rattle.standby.specs.Answers.{Comes, IsEnd, FoldsWhole, IsArchiveFault, IsSinkFault, SaysFault, fault_word};
+ghost use Rattle.standby.specs.Answers.{Comes, IsEnd, FoldsWhole, IsArchiveFault, IsSinkFault, SaysFault, fault_line};
 ghost use Rattle.standby.specs.Devices.{ComeBack};
 
 use crate::command::Command;
@@ -52,7 +52,7 @@ pub fn sqlapply_still<I: Source, O: Sink, A: Archive, S: Spill, K: Keeper>(
         (Rose (O.faults out.old) (O.faults out.new)) }
 
     // A status that ends the command at once is named in its one line, as far as the sink takes it.
-    ensures last_line { SaysFault (fault_word result.status) (O.written out.old) (O.written out.new)
+    ensures last_line { SaysFault (fault_line result.status) (O.written out.old) (O.written out.new)
         (Rose (O.faults out.old) (O.faults out.new)) }
 {
     match command(words) {
