@@ -1,4 +1,5 @@
-//! More worked examples of the definitions of `redo_spec`. Nothing stands on this crate, so one more proves nothing else anew.
+//! More worked examples of the definitions of `redo_spec`. Nothing stands on this crate, so a further example makes no other
+//! crate be proved again.
 #![tactic(auto)]
 
 pub mod examples;
