@@ -424,7 +424,10 @@ fn a_change_touches_a_key_of_each_index(rt: HostRuntime) -> Result<(), Fail> {
         return Err(Fail::new("not accepted"));
     };
     let keys = touch(alloc, &dict, &change)?;
-    assert_eq!(rt; keys.items().len(), 2);
-    assert_eq!(rt; (keys.items()[0].index, keys.items()[1].index), (0, 1));
+    let [primary, unique] = keys.items() else {
+        return Err(Fail::new("not two keys"));
+    };
+    assert_eq!(rt; primary.index, 0);
+    assert_eq!(rt; unique.index, 1);
     Ok(())
 }
