@@ -1,24 +1,27 @@
-//! More worked examples: folds over rows, runs behind a mark, registered logs, the most open changes, and pairs of causes of which
-//! the first counts.
+//! More worked examples: folds over rows, runs behind a mark, registered logs, the most open changes, pairs of causes of which the
+//! first counts, work ahead of a commit, and verdicts that are alike.
 //!
 //! Each function here has an empty body; its clauses hold by computing both sides. The logs are those of `specs/Examples.antt`, and of
 //! `specs/Worked.antt` of `redo_spec`.
-ghost use Rattle.std.specs.Prelude.{◌≡◌, [], ◌∷◌, length, take, drop, slice_set, codes, Some, None, ◌^◌, ◌-◌, ◌+◌};
+ghost use Rattle.std.specs.Prelude.{◌≡◌, [], ◌∷◌, length, take, drop, slice_set, codes, Some, None, Ok, Err, IsTrue, false, ◌^◌, ◌-◌, ◌+◌};
 ghost use Rattle.rl_value.specs.declared.cause.Cause.TheVariants.{Cut};
 ghost use Rattle.rl_value.specs.declared.cause.CutFault.TheVariants.{Truncated};
 ghost use Rattle.rl_value.specs.declared.cause.LawFault.TheVariants.{OpenLimit};
+ghost use Rattle.rl_value.specs.declared.miss.Miss.TheVariants.{Absent, Taken};
 ghost use Rattle.rl_value.specs.declared.value.Value.TheVariants.{Null, Text};
 ghost use Rattle.rl_value.specs.declared.verdict.Stop.TheVariants.{Drained, Gap, Malformed};
 ghost use Rattle.rl_value.specs.declared.verdict.Verdict.TheVariants.{RowLimit};
 ghost use Rattle.redo_vec.specs.declared.vector.Vector.TheVariants.{Change as OfChange, Commit, DictEnd, Table};
+ghost use Rattle.redo_spec.specs.Alike.{AreAlikeVerdicts};
 ghost use Rattle.redo_spec.specs.History.{commit_count};
 ghost use Rattle.redo_spec.specs.Law.{count_fault};
-ghost use Rattle.redo_spec.specs.Lines.{words, verdict_text};
+ghost use Rattle.redo_spec.specs.Fold.{fold_of_redo};
+ghost use Rattle.redo_spec.specs.Lines.{words, verdict_text, fold_lines};
 ghost use Rattle.redo_spec.specs.Mark.{MarkFits, resumed};
 ghost use Rattle.redo_spec.specs.Redo.{redo_from};
 ghost use Rattle.redo_spec.specs.Skips.{Transaction};
-ghost use Rattle.redo_spec.specs.Worked.{rec, one_of, start, commit, row, n, update, delete, emp, emp_entries, emp_fold, emp_end, last_line, dictionary_end, text_keyed, freed_value, moved_row, xid_used_again, folded_under, fold_bytes, first_bytes, cut_short_log, side_by_side, log_at, log_1, log_2, log_5, registered_end, paired_end, half_moved, half_moved_logged};
-ghost use Rattle.redo_worked.specs.Examples.{folded_over, row_one, rolled_back_behind, rolled_back_from, two_logs_at};
+ghost use Rattle.redo_spec.specs.Worked.{rec, one_of, head_of, start, commit, row, n, update, delete, emp, emp_entries, emp_fold, emp_end, last_line, dictionary_end, text_keyed, freed_value, moved_row, xid_used_again, folded_under, fold_bytes, first_bytes, cut_short_log, side_by_side, log_at, log_1, log_2, log_5, registered_end, paired_end, half_moved, half_moved_logged};
+ghost use Rattle.redo_worked.specs.Examples.{folded_over, row_one, rolled_back_behind, rolled_back_from, two_logs_at, emp_key, removed_2, renamed_1, work_behind, missed_with};
 
 /// A fold over rows that are there: an update finds them as they are, and a skipped one does not look.
 pub fn rows_of_a_base_fold()
@@ -70,6 +73,11 @@ pub fn first_log_is_changed()
     ensures dictionary_alone { fold_bytes 1 (Some (take 75 first_bytes)) ≡ codes "APPLIED_SCN 99" ∷ codes "TABLE T.A 0" ∷ codes "END 99 0 MALFORMED 2 TRUNCATED" ∷ [] }
 {}
 
+/// A redo that ends before its dictionary is whole shows no table.
+pub fn unfinished_dictionary_shows_no_table()
+    ensures absent { fold_lines (fold_of_redo 1 99 ((head_of 9, rec 100 (Table emp ∷ [])) ∷ []) Drained) ≡ codes "APPLIED_SCN 99" ∷ codes "END 99 0 DRAINED" ∷ [] }
+{}
+
 /// As many changes of open transactions as may survive together, and one more.
 pub fn open_changes_have_a_limit()
     ensures below { count_fault (2 ^ 19 - 1) ≡ None }
@@ -91,4 +99,21 @@ pub fn further_orders_of_causes()
     ensures least_of_new { emp_end (rec 101 (start 1 ∷ row 1 5 ∷ []) ∷ rec 101 (start 2 ∷ row 2 4 ∷ []) ∷ rec 101 (start 3 ∷ update 3 ((0, n 5) ∷ []) ((0, n 4) ∷ []) ∷ []) ∷ [])
         ≡ codes "END 99 0 MALFORMED 4 LOCK HR.EMP 0 (4) 2.1.1" }
     ensures row_limit_told { words (verdict_text [] (RowLimit 5)) ≡ codes "ROWLIMIT 5" }
+{}
+
+/// Work of two changes: each finds the rows of its count with what the one before it wrote, and writes at its row keys, the old one
+/// and the new one. One that is done before its row is there misses.
+pub fn work_finds_the_rows_of_its_counts()
+    ensures later { work_behind renamed_1 1 ≡ Ok ((emp_key 2, Some (n 2 ∷ Null ∷ Null ∷ [])) ∷ (emp_key 1, Some (n 1 ∷ Text (codes "B") ∷ Null ∷ []))
+        ∷ (emp_key 1, Some (n 1 ∷ Text (codes "B") ∷ Null ∷ [])) ∷ []) }
+    ensures own { work_behind removed_2 1 ≡ Ok ((emp_key 2, Some (n 2 ∷ Null ∷ Null ∷ [])) ∷ (emp_key 2, None) ∷ []) }
+    ensures missed { work_behind renamed_1 0 ≡ Err (record { pos = record { rec = 3; vec = 1 }; table = 1; miss = Absent (emp_key 1) }) }
+{}
+
+/// Verdicts of a unique value that is taken are alike whoever has it; of two unique keys they are not, nor where one of them has another
+/// miss.
+pub fn verdicts_are_alike()
+    ensures alike { AreAlikeVerdicts (missed_with (Taken 1 (emp_key 1))) (missed_with (Taken 1 (emp_key 2))) }
+    ensures other_index { AreAlikeVerdicts (missed_with (Taken 1 (emp_key 1))) (missed_with (Taken 2 (emp_key 1))) → IsTrue false }
+    ensures other_miss { AreAlikeVerdicts (missed_with (Absent (emp_key 1))) (missed_with (Absent (emp_key 2))) → IsTrue false }
 {}
