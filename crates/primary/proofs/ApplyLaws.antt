@@ -11,8 +11,7 @@ use Rattle.redo_spec.specs.Skips.{Skip}
 use Rattle.redo_spec.specs.Fold.{Missed, effects, live_row_limit}
 use Rattle.row_apply.specs.declared.writes.Write.{Write}
 use Rattle.row_apply.specs.Overlaid.{overlaid}
-use Rattle.primary.specs.Progress.{Ahead, Going, Ended, held_at, kept_of, ended_or, applied, committed}
-use Rattle.primary.specs.Starts.{tables_shown}
+use Rattle.primary.specs.Progress.{tables_shown, waiting_until, Ahead, Going, Ended, held_at, kept_of, ended_or, applied, committed}
 use Rattle.primary.specs.Running.{TellsMiss}
 use Rattle.primary.specs.declared.effects.EffectsFault.{EffectsFault}
 use Rattle.primary.specs.declared.effects.EffectsFault.TheVariants as faults
@@ -20,6 +19,10 @@ use Rattle.primary.proofs.TableLaws.{definitions_assembled}
 
 pub shown_whole : (whole : Bool) (ts : List TableRow) (by : RowsById) → whole ≡ true → tables_shown whole ts by ≡ assembled ts by
 shown_whole whole ts by is = let none : Tables = [] in ap (λ b. cond b (assembled ts by) none) is
+
+-- no rows wait for a dictionary that is whole
+pub none_wait : (whole : Bool) (by after : RowsById) → whole ≡ true → waiting_until whole after ≡ waiting_until whole by
+none_wait whole by after is = ap (λ b. waiting_until b after) is ∙ sym (ap (λ b. waiting_until b by) is)
 
 pub tells : (r : Result Tables Missed) (fault : EffectsFault) (pos : Pos) (table : ℕ) (miss : Miss) → fault ≡ faults.Missed pos table miss → TellsMiss r fault → r ≡ Err (record { pos = pos; table = table; miss = miss })
 tells r fault pos table miss is told = let P : EffectsFault → Type 0 = λ f. TellsMiss r f in subst P is told
@@ -52,11 +55,11 @@ over_limit skips scn ps a ts by ws left tables next is many same =
     ∙ ap (λ b. ended_or (cond b (Some (RowLimit scn)) None) scn (overlaid (assembled ts by) ws) a) (sym (not_false _ many))
     ∙ sym (applies_next skips scn ps a ts by (Ok (overlaid (assembled ts by) ws)) tables next is)
 
-pub goes_on : (skips : List Skip) (scn : ℕ) (ps : List Placed) (a : Ahead) (ts : List TableRow) (by : RowsById) (ws : List Write) (left : Tables) (made n : ℕ) → a.tables ≡ assembled ts by → nat_lt a.made a.n ≡ false →
+pub goes_on : (skips : List Skip) (scn : ℕ) (ps : List Placed) (a : Ahead) (ts : List TableRow) (by : RowsById) (ws : List Write) (left : Tables) (waiting : RowsById) (made n : ℕ) → a.tables ≡ assembled ts by → nat_lt a.made a.n ≡ false →
     effects (assembled ts by) (kept_of skips ts a.n ps) ≡ Ok (overlaid (assembled ts by) ws) → not (nat_lt live_row_limit (row_count (overlaid (assembled ts by) ws))) ≡ true → left ≡ overlaid (assembled ts by) ws →
-    made ≡ a.made + 1 → n ≡ a.n + 1 → Going (record a { made = made; n = n; scn = scn; tables = left }) ≡ committed skips scn ps a
-goes_on skips scn ps a ts by ws left made n tables next is few same one more =
-    (λ i. Going (record a { made = one i; n = more i; scn = scn; tables = same i }))
+    made ≡ a.made + 1 → n ≡ a.n + 1 → waiting ≡ a.waiting → Going (record a { made = made; n = n; scn = scn; waiting = waiting; tables = left }) ≡ committed skips scn ps a
+goes_on skips scn ps a ts by ws left waiting made n tables next is few same one more waits =
+    (λ i. Going (record a { made = one i; n = more i; scn = scn; waiting = waits i; tables = same i }))
     ∙ ap (λ b. ended_or (cond b (Some (RowLimit scn)) None) scn (overlaid (assembled ts by) ws) a) (sym (not_true _ few))
     ∙ sym (applies_next skips scn ps a ts by (Ok (overlaid (assembled ts by) ws)) tables next is)
 

@@ -15,16 +15,16 @@ use Rattle.redo_vec.specs.declared.table.TableRow.{TableRow}
 use Rattle.redo_vec.specs.declared.vector.Vector.{Vector}
 use Rattle.redo_vec.specs.declared.vector.Vector.TheVariants.{Start, Change as OfChange, Undo, Commit, Rollback, Table, DictEnd}
 use Rattle.redo_spec.specs.declared.header.Header.{Header}
-use Rattle.redo_spec.specs.Tables.{Tables, definitions_of}
+use Rattle.redo_spec.specs.Tables.{Tables, RowsById, definitions_of}
 use Rattle.redo_spec.specs.History.{Entry, Placed, Txn, Committed, Commits, History, commits_after, commit_count, no_history, committed_at, after_vector as history_vector, after_vectors as history_vectors, history_after}
 use Rattle.redo_spec.specs.Dictionary.{Dictionary}
 use Rattle.redo_spec.specs.Standing.{Standing, standing_after, standing_after_all, entered as entered_standing, record_after}
 use Rattle.redo_spec.specs.Law.{dictionary_fault, vector_fault, vectors_fault, whole_fault, record_fault, dictionary_left, admitted_or, admission}
 use Rattle.redo_spec.specs.Skips.{Skip}
-use Rattle.redo_spec.specs.Fold.{Folded, effects, commit_effect, commit_effects, known_tables, folded, named_by}
+use Rattle.redo_spec.specs.Fold.{Folded, effects, commit_effect, commit_effects, folded, named_by}
 use Rattle.primary.specs.declared.plain.Plain.{Plain}
-use Rattle.primary.specs.Progress.{OpenChanges, changes_of, Ahead, Progress, Going, Ended, kept_of, tables_or, ended_or, applied, committed, live_after, commit_of, with_commit, after_vector, after_vectors, tables_then, entered, judged, after_record, after_records, held_at, end_of}
-use Rattle.primary.specs.Starts.{tables_shown, base_of, fold_admitted, fold_from, IsStart, begun, after}
+use Rattle.primary.specs.Progress.{OpenChanges, changes_of, Ahead, Progress, Going, Ended, kept_of, tables_or, ended_or, applied, committed, live_after, commit_of, with_commit, after_vector, after_vectors, tables_shown, waiting_until, tables_then, entered, judged, after_record, after_records, held_at, end_of}
+use Rattle.primary.specs.Starts.{base_of, fold_admitted, fold_from, begun, after}
 use Rattle.primary.proofs.WalkLaws.{Walked, came, halted, walk, walk_from, walk-snoc, walk_stays, walked_or, seen, walk_is_fold}
 use Rattle.primary.proofs.FitLaws.{none_first, none_second, no_fault, is_whole, both, opens_after}
 use Rattle.primary.specs.Running.{Opens}
@@ -169,16 +169,20 @@ abbrev pub IfGoing : Progress → (Ahead → Type 0) → Type 0
 IfGoing (Going a) P = P a
 IfGoing (Ended f) P = Unit {0}
 
-going_same : (skips : List Skip) (scn : ℕ) (ps : List Placed) (a : Ahead) (P : Standing → OpenChanges → Type 0) → P a.standing a.live → IfGoing (committed skips scn ps a) (λ b. P b.standing b.live)
+going_same : (skips : List Skip) (scn : ℕ) (ps : List Placed) (a : Ahead) (P : Standing → OpenChanges → RowsById → Type 0) → P a.standing a.live a.waiting → IfGoing (committed skips scn ps a) (λ b. P b.standing b.live b.waiting)
 going_same skips scn ps a P p =
-    elim (nat_lt a.made a.n) as (λ b. IfGoing (cond b (Going (record a { made = a.made + 1 })) (applied scn (effects a.tables (kept_of skips (definitions_of a.tables) a.n ps)) a)) (λ b. P b.standing b.live)) [
+    elim (nat_lt a.made a.n) as (λ b. IfGoing (cond b (Going (record a { made = a.made + 1 })) (applied scn (effects a.tables (kept_of skips (definitions_of a.tables) a.n ps)) a)) (λ b. P b.standing b.live b.waiting)) [
       | true ↦ p
       | false ↦ by (halted scn (effects a.tables (kept_of skips (definitions_of a.tables) a.n ps)))
     ]
   where
-    by : (o : Option Verdict) → IfGoing (ended_or o scn (tables_or a.tables (effects a.tables (kept_of skips (definitions_of a.tables) a.n ps))) a) (λ b. P b.standing b.live)
+    by : (o : Option Verdict) → IfGoing (ended_or o scn (tables_or a.tables (effects a.tables (kept_of skips (definitions_of a.tables) a.n ps))) a) (λ b. P b.standing b.live b.waiting)
     by None = p
     by (Some v) = tt
+
+if_going : (p : Progress) (P Q : Ahead → Type 0) → ((a : Ahead) → P a → Q a) → IfGoing p P → IfGoing p Q
+if_going (Going a) P Q more h = more a h
+if_going (Ended f) P Q more h = tt
 
 -- the open transactions of a fold that goes on, and what it has judged
 pub record Tied (last s : Standing) (hist : History) (standing : Standing) (live : OpenChanges) : Type 0 where
@@ -228,7 +232,7 @@ vector_holds start skips base last h vec v s hist (Going a) first fits w =
         record {
           holds = subst (λ (ps : List Placed). Holds start skips base (history_vector s.scn at (Commit x) hist).commits (committed skips s.scn ps b)) ends.survivors
               (subst (λ (ts : List Txn). Holds start skips base (committed_at at s.scn ts hist.commits) (committed skips s.scn ends.txn.survivors b)) (sym ends.is) one);
-          tied = going_same skips s.scn (unwrap_or (changes_of x a.live) []) b (λ standing live. Tied last (standing_after vec (Commit x) s) (history_vector s.scn at (Commit x) hist) standing live) t;
+          tied = going_same skips s.scn (unwrap_or (changes_of x a.live) []) b (λ standing live waiting. Tied last (standing_after vec (Commit x) s) (history_vector s.scn at (Commit x) hist) standing live) t;
         }
 
 pub ended_vectors : (skips : List Skip) (scn rec vec : ℕ) (vs : List Vector) (f : Folded) → after_vectors skips scn rec vec vs (Ended f) ≡ Ended f
@@ -283,33 +287,67 @@ names_vectors skips scn rec vec (v ∷ vs) p =
 abbrev pub base_at : Plain → Standing → Tables
 base_at start s = tables_shown s.dictionary.finished s.dictionary.tables start.tables
 
--- before the dictionary is whole nothing was committed, and there are no rows
-pub record Early (start : Plain) (s : Standing) (hist : History) : Type 0 where
-  pub made : s.dictionary.finished ≡ false → hist.commits.made ≡ []
-  pub none : s.dictionary.finished ≡ false → start.tables ≡ []
+-- before the dictionary is whole nothing was committed
+abbrev pub Early : Standing → History → Type 0
+Early s hist = s.dictionary.finished ≡ false → hist.commits.made ≡ []
 
-early_vector : (start : Plain) (h : Header) (vec : ℕ) (v : Vector) (s : Standing) (hist : History) → vector_fault h s v ≡ None → Early start s hist →
-    Early start (standing_after vec v s) (history_vector s.scn (record { rec = s.rec; vec = vec }) v hist)
-early_vector start h vec (Start x) s hist fits e = record { made = e.made; none = e.none }
-early_vector start h vec (OfChange c) s hist fits e = record { made = e.made; none = e.none }
-early_vector start h vec (Undo x) s hist fits e = record { made = e.made; none = e.none }
-early_vector start h vec (Commit x) s hist fits e = record {
-  made = λ not. both s.dictionary.finished (is_whole s.dictionary.finished _ (no_fault _ _ (none_first (dictionary_fault h s (Commit x)) _ fits))) not;
-  none = e.none;
-}
-early_vector start h vec (Rollback x) s hist fits e = record { made = e.made; none = e.none }
-early_vector start h vec (Table t) s hist fits e = record { made = e.made; none = e.none }
-early_vector start h vec DictEnd s hist fits e = record { made = λ not. absurd (cc); none = λ not. absurd (cc) }
+-- the rows of the start wait for it
+abbrev pub Waits : Plain → Standing → RowsById → Type 0
+Waits start s rows = s.dictionary.finished ≡ false → rows ≡ start.tables
 
-early_vectors : (start : Plain) (h : Header) (vec : ℕ) (vs : List Vector) (s : Standing) (hist : History) → vectors_fault h vec vs s ≡ None → Early start s hist →
-    Early start (standing_after_all vec vs s) (history_vectors s.scn s.rec vec vs hist)
-early_vectors start h vec [] s hist fits e = e
-early_vectors start h vec (v ∷ vs) s hist fits e =
-    early_vectors start h (vec + 1) vs (standing_after vec v s) _ (none_second (vector_fault h s v) _ fits) (early_vector start h vec v s hist (none_first (vector_fault h s v) _ fits) e)
+early_vector : (h : Header) (vec : ℕ) (v : Vector) (s : Standing) (hist : History) → vector_fault h s v ≡ None → Early s hist →
+    Early (standing_after vec v s) (history_vector s.scn (record { rec = s.rec; vec = vec }) v hist)
+early_vector h vec (Start x) s hist fits e = e
+early_vector h vec (OfChange c) s hist fits e = e
+early_vector h vec (Undo x) s hist fits e = e
+early_vector h vec (Commit x) s hist fits e = λ part. both s.dictionary.finished (is_whole s.dictionary.finished _ (no_fault _ _ (none_first (dictionary_fault h s (Commit x)) _ fits))) part
+early_vector h vec (Rollback x) s hist fits e = e
+early_vector h vec (Table t) s hist fits e = e
+early_vector h vec DictEnd s hist fits e = λ part. absurd (cc)
+
+early_vectors : (h : Header) (vec : ℕ) (vs : List Vector) (s : Standing) (hist : History) → vectors_fault h vec vs s ≡ None → Early s hist →
+    Early (standing_after_all vec vs s) (history_vectors s.scn s.rec vec vs hist)
+early_vectors h vec [] s hist fits e = e
+early_vectors h vec (v ∷ vs) s hist fits e =
+    early_vectors h (vec + 1) vs (standing_after vec v s) _ (none_second (vector_fault h s v) _ fits) (early_vector h vec v s hist (none_first (vector_fault h s v) _ fits) e)
+
+-- within a record neither what is judged changes, nor what waits
+waits_vector : (skips : List Skip) (scn : ℕ) (at : Pos) (v : Vector) (p : Progress) (P : Standing → RowsById → Type 0) → IfGoing p (λ a. P a.standing a.waiting) → IfGoing (after_vector skips scn at v p) (λ b. P b.standing b.waiting)
+waits_vector skips scn at v (Ended f) P h = tt
+waits_vector skips scn at v (Going a) P h = by (commit_of v a.live)
+  where
+    by : (o : Option (List Placed)) → IfGoing (with_commit skips scn o (record a { live = live_after at v a.live })) (λ b. P b.standing b.waiting)
+    by None = h
+    by (Some ps) = going_same skips scn ps (record a { live = live_after at v a.live }) (λ standing live waiting. P standing waiting) h
+
+pub waits_vectors : (skips : List Skip) (scn rec vec : ℕ) (vs : List Vector) (p : Progress) (P : Standing → RowsById → Type 0) → IfGoing p (λ a. P a.standing a.waiting) → IfGoing (after_vectors skips scn rec vec vs p) (λ b. P b.standing b.waiting)
+waits_vectors skips scn rec vec [] p P h = h
+waits_vectors skips scn rec vec (v ∷ vs) p P h =
+    let at : Pos = record { rec = rec; vec = vec } in
+    waits_vectors skips scn rec (vec + 1) vs (after_vector skips scn at v p) P (waits_vector skips scn at v p P h)
+
+-- a dictionary that is not whole was not whole before
+part_before : (e : Entry) (s : Standing) → record_fault s e ≡ None → (record_after e s).dictionary.finished ≡ false → s.dictionary.finished ≡ false
+part_before e s fits part =
+    elim s.dictionary.finished as (λ b. s.dictionary.finished ≡ b → b ≡ false) [
+      | true ↦ λ whole. sym (ap (λ (d : Dictionary). d.finished) (record_keeps e s fits whole) ∙ whole) ∙ part
+      | false ↦ λ is. refl
+    ] refl
+
+-- after one more record the rows of the start wait as long as they have to
+pub waits_record : (start : Plain) (skips : List Skip) (e : Entry) (a : Ahead) → record_fault a.standing e ≡ None → Waits start a.standing a.waiting →
+    IfGoing (after_record skips e (Going a)) (λ b. (b.standing ≡ record_after e a.standing) × Waits start b.standing b.waiting)
+waits_record start skips (h, r) a fits waits =
+    let last = record_after (h, r) a.standing in
+    let P : Standing → RowsById → Type 0 = λ s rows. (s ≡ last) × Waits start s rows in
+    let begins : Waits start last (waiting_until last.dictionary.finished a.waiting) = λ part. ap (λ b. waiting_until b a.waiting) part ∙ waits (part_before (h, r) a.standing fits part) in
+    subst (λ (o : Option LawFault). IfGoing (judged o skips (h, r) a) (λ b. P b.standing b.waiting)) (sym fits)
+    (waits_vectors skips r.scn (a.standing.rec + 1) 1 r.vectors (Going (entered (h, r) a)) P (refl, begins))
 
 pub record Between (start : Plain) (skips : List Skip) (s : Standing) (hist : History) (p : Progress) : Type 0 where
   pub within : Within start skips (base_at start s) s s hist p
-  pub early : Early start s hist
+  pub early : Early s hist
+  pub waits : IfGoing p (λ a. Waits start a.standing a.waiting)
   pub named : names_of p ≡ s.dictionary.tables
 
 -- a walk over no commits stands where it began
@@ -320,19 +358,23 @@ no_end : (start : Plain) (skips : List Skip) (base : Tables) (cs : Commits) (v :
 no_end start skips base cs v none ends P = let gone : None ≡ Some v = sym (ap (λ w. w.stop) (stands start skips base cs none)) ∙ ends in absurd (cc)
 
 -- the dictionary of a fold that has ended with a commit is whole
-ended_whole : (start : Plain) (skips : List Skip) (s : Standing) (hist : History) (f : Folded) → Early start s hist → Halts start skips (base_at start s) hist.commits f → s.dictionary.finished ≡ true
+ended_whole : (start : Plain) (skips : List Skip) (s : Standing) (hist : History) (f : Folded) → Early s hist → Halts start skips (base_at start s) hist.commits f → s.dictionary.finished ≡ true
 ended_whole start skips s hist f early h =
     elim s.dictionary.finished as (λ b. s.dictionary.finished ≡ b → b ≡ true) [
       | true ↦ λ whole. refl
-      | false ↦ λ part. no_end start skips (base_at start s) hist.commits f.verdict (early.made part) (ap (λ w. w.stop) h.walked) _
+      | false ↦ λ part. no_end start skips (base_at start s) hist.commits f.verdict (early part) (ap (λ w. w.stop) h.walked) _
     ] refl
 
 -- as an admitted record begins, its dictionary is the one by which the base has its tables
-rebased : (start : Plain) (skips : List Skip) (e : Entry) (a : Ahead) (hist : History) → record_fault a.standing e ≡ None → Early start a.standing hist →
+rebased : (start : Plain) (skips : List Skip) (e : Entry) (a : Ahead) (hist : History) → record_fault a.standing e ≡ None → Early a.standing hist → Waits start a.standing a.waiting →
     Counts start skips (base_at start a.standing) hist.commits a → Counts start skips (base_at start (record_after e a.standing)) hist.commits (entered e a)
-rebased start skips e a hist fits early k =
+rebased start skips e a hist fits early waits k =
     elim a.standing.dictionary.finished as (λ b. a.standing.dictionary.finished ≡ b → Counts start skips (base_at start (record_after e a.standing)) hist.commits
-    (record a { standing = record_after e a.standing; tables = tables_then b a.tables (record_after e a.standing) })) [
+    (record a {
+      standing = record_after e a.standing;
+      waiting = waiting_until (record_after e a.standing).dictionary.finished a.waiting;
+      tables = tables_then b a.waiting a.tables (record_after e a.standing);
+    })) [
       | true ↦ λ whole.
           let same = record_keeps e a.standing fits whole in
           record {
@@ -345,20 +387,20 @@ rebased start skips e a hist fits early k =
           }
       | false ↦ λ part.
           let s = record_after e a.standing in
-          let base : base_at start s ≡ known_tables s = ap (λ rows. tables_shown s.dictionary.finished s.dictionary.tables rows) (early.none part) in
-          let was = sym (stands start skips (base_at start a.standing) hist.commits (early.made part)) ∙ k.walked in
+          let base : base_at start s ≡ tables_shown s.dictionary.finished s.dictionary.tables a.waiting = ap (λ rows. tables_shown s.dictionary.finished s.dictionary.tables rows) (sym (waits part)) in
+          let was = sym (stands start skips (base_at start a.standing) hist.commits (early part)) ∙ k.walked in
           record {
             before = k.before;
             made = k.made;
             least = k.least;
             most = k.most;
             same = k.same;
-            walked = stands start skips (base_at start s) hist.commits (early.made part) ∙ (λ i. came (was i).n (was i).scn (base i) None);
+            walked = stands start skips (base_at start s) hist.commits (early part) ∙ (λ i. came (was i).n (was i).scn (base i) None);
           }
     ] refl
 
 -- a fold that has ended keeps its base
-base_stays : (start : Plain) (skips : List Skip) (e : Entry) (s : Standing) (hist : History) (f : Folded) → record_fault s e ≡ None → Early start s hist →
+base_stays : (start : Plain) (skips : List Skip) (e : Entry) (s : Standing) (hist : History) (f : Folded) → record_fault s e ≡ None → Early s hist →
     Halts start skips (base_at start s) hist.commits f → Halts start skips (base_at start (record_after e s)) hist.commits f
 base_stays start skips e s hist f fits early h =
     let same = record_keeps e s fits (ended_whole start skips s hist f early h) in
@@ -374,28 +416,30 @@ record_holds start skips (h, r) s hist (Ended f) first fits b =
       within = subst (λ (q : Progress). Within start skips (base_at start (record_after (h, r) s)) (record_after (h, r) s) (record_after (h, r) s) (history_after (s.rec + 1) (h, r) hist) q)
           (ended_vectors skips r.scn (s.rec + 1) 1 r.vectors f)
           (vectors_hold start skips (base_at start (record_after (h, r) s)) (record_after (h, r) s) h 1 r.vectors (entered_standing (h, r) s) hist (Ended f) first of_vectors begins);
-      early = early_vectors start h 1 r.vectors (entered_standing (h, r) s) hist of_vectors (record { made = b.early.made; none = b.early.none });
+      early = early_vectors h 1 r.vectors (entered_standing (h, r) s) hist of_vectors b.early;
+      waits = tt;
       named = b.named ∙ ap (λ (d : Dictionary). d.tables) (sym (record_keeps (h, r) s fits (ended_whole start skips s hist f b.early b.within.holds)));
     }
 record_holds start skips (h, r) s hist (Going a) first fits b =
-    let P : Standing → Type 0 = λ t. record_fault t (h, r) ≡ None → Within start skips (base_at start t) a.standing t hist (Going a) → Early start t hist →
+    let P : Standing → Type 0 = λ t. record_fault t (h, r) ≡ None → Within start skips (base_at start t) a.standing t hist (Going a) → Early t hist → Waits start a.standing a.waiting →
     Between start skips (record_after (h, r) t) (history_after (t.rec + 1) (h, r) hist) (after_record skips (h, r) (Going a)) in
-    let at_own : P a.standing = λ own w early.
+    let at_own : P a.standing = λ own w early waits.
     let of_vectors = none_second (whole_fault a.standing (h, r)) _ own in
     let last = record_after (h, r) a.standing in
     let begins : Within start skips (base_at start last) last (entered_standing (h, r) a.standing) hist (Going (entered (h, r) a)) = record {
-      holds = rebased start skips (h, r) a hist own early w.holds;
+      holds = rebased start skips (h, r) a hist own early waits w.holds;
       tied = record { judged = refl; opens = record { rising = w.tied.opens.rising; alike = w.tied.opens.alike }; lives = w.tied.lives };
     } in
     let ends = vectors_hold start skips (base_at start last) last h 1 r.vectors (entered_standing (h, r) a.standing) hist (Going (entered (h, r) a)) first of_vectors begins in
     record {
       within = subst (λ (o : Option LawFault). Within start skips (base_at start last) last last (history_after (a.standing.rec + 1) (h, r) hist) (judged o skips (h, r) a)) (sym own) ends;
-      early = early_vectors start h 1 r.vectors (entered_standing (h, r) a.standing) hist of_vectors (record { made = early.made; none = early.none });
+      early = early_vectors h 1 r.vectors (entered_standing (h, r) a.standing) hist of_vectors early;
+      waits = if_going (after_record skips (h, r) (Going a)) _ (λ b. Waits start b.standing b.waiting) (λ b both. both.1) (waits_record start skips (h, r) a own waits);
       named = ap (λ o. names_of (judged o skips (h, r) a)) own ∙ names_vectors skips r.scn (a.standing.rec + 1) 1 r.vectors (Going (entered (h, r) a));
     } in
     let tied = b.within.tied in
     subst P tied.judged at_own fits
-    (record { holds = b.within.holds; tied = record { judged = refl; opens = tied.opens; lives = tied.lives } }) b.early
+    (record { holds = b.within.holds; tied = record { judged = refl; opens = tied.opens; lives = tied.lives } }) b.early b.waits
 
 -- ---- the end
 
@@ -456,20 +500,21 @@ folds start skips stop (e ∷ es) s hist p first b =
         ends_at t = named_by (dictionary_left t e).tables (held_at a (Stopped (Malformed (t.rec + 1) (causes.Law fault))))
 
 -- The progress of a fold after any records is the fold of them.
-pub progress_folds : (start : Plain) (skips : List Skip) (entries : List Entry) (stop : Stop) → IsStart start → end_of stop (after start skips entries) ≡ fold_from start skips entries stop
-progress_folds start skips entries stop is =
-    folds start skips stop entries (standing_of start.law) (no_history start.before) (begun start) is.counted (record {
+pub progress_folds : (start : Plain) (skips : List Skip) (entries : List Entry) (stop : Stop) → start.before ≤ start.n → end_of stop (after start skips entries) ≡ fold_from start skips entries stop
+progress_folds start skips entries stop first =
+    folds start skips stop entries (standing_of start.law) (no_history start.before) (begun start) first (record {
       within = record {
         holds = record {
           before = refl;
           made = omega arith;
           least = omega arith;
-          most = is.counted;
+          most = first;
           same = λ past. absurd (omega (arith, past));
           walked = stands start skips (base_at start (standing_of start.law)) (record { before = start.before; made = [] }) refl;
         };
         tied = record { judged = refl; opens = record { rising = nothing_rises; alike = λ y. refl }; lives = record { of = λ y. refl } };
       };
-      early = record { made = λ part. refl; none = is.none };
+      early = λ part. refl;
+      waits = λ part. ap (λ b. waiting_until b start.tables) part;
       named = refl;
     })

@@ -10,4 +10,5 @@ pub mod ApplyLaws
 pub mod StepLaws
 pub mod UniqueLaws
 pub mod WriteLaws
+pub mod CheckLaws
 pub mod SoundLaws

@@ -1,5 +1,5 @@
 -- A fold leaves sound tables: the effect of accepted changes keeps them so, record by record.
-use Rattle.std.proofs.Common.{◌≡◌, ℕ, ◌+◌, ◌==◌, nat_lt, List, [], ◌∷◌, ◌++◌, filter, take, length, ◌-◌, zero, suc, refl, sym, ap, ◌∙◌, subst, Bool, true, false, cond, Option, Some, None, unwrap_or, Result, Ok, Err}
+use Rattle.std.proofs.Common.{◌≡◌, ℕ, ◌+◌, ◌≤◌, ◌<◌, arith, drop, get_or, ◌==◌, nat_lt, List, [], ◌∷◌, ◌++◌, filter, take, length, ◌-◌, zero, suc, refl, sym, ap, ◌∙◌, subst, Bool, true, false, cond, Option, Some, None, unwrap_or, Result, Ok, Err}
 use Rattle.std.specs.List.{AllByRecursion}
 use Rattle.std.specs.Option.{option_map}
 use Rattle.std.specs.FinMap.Entries as entries
@@ -23,8 +23,9 @@ use Rattle.redo_spec.specs.ChangeForm.{change_fault, change_fault_in, fault_of_t
 use Rattle.redo_spec.specs.Dictionary.{Dictionary, table_of}
 use Rattle.redo_spec.specs.Effect.{add_row, take_row, difference, with_cells, cell_values, logged_key, effect_on, effect}
 use Rattle.redo_spec.specs.Fold.{Folded, Missed, effects}
-use Rattle.redo_spec.specs.History.{Entry, Placed}
-use Rattle.redo_spec.specs.Law.{vector_fault, vectors_fault, whole_fault, record_fault}
+use Rattle.redo_spec.specs.History.{Entry, Placed, History, no_history, history_after}
+use Rattle.redo_spec.specs.Law.{vector_fault, vectors_fault, whole_fault, record_fault, dictionary_left, admitted_or, admission}
+use Rattle.redo_law.specs.Calls.{standing_of}
 use Rattle.redo_spec.specs.Skips.{Skip}
 use Rattle.redo_spec.specs.Standing.{Standing, standing_after, standing_after_all, entered as entered_standing, record_after}
 use Rattle.redo_spec.specs.Survivors.{after_change, after_undo}
@@ -35,14 +36,14 @@ use Rattle.row_apply.proofs.Adding.{was_added, sound-added, sound-minus}
 use Rattle.row_apply.proofs.Fitting.{updated_fits}
 use Rattle.primary.specs.declared.plain.Plain.{Plain}
 use Rattle.primary.specs.Cells.{HaveCells, HasCells, AreOfCells}
-use Rattle.primary.specs.Progress.{OpenChanges, changes_of, Ahead, Progress, Going, Ended, kept_of, tables_or, ended_or, applied, committed, live_after, after_vector, after_vectors, tables_then, entered, judged, after_record, after_records, end_of}
+use Rattle.primary.specs.Progress.{OpenChanges, changes_of, Ahead, Progress, Going, Ended, kept_of, tables_or, ended_or, applied, committed, live_after, after_vector, after_vectors, tables_shown, waiting_until, tables_then, entered, RowsAreSound, NoneWait, judged, after_record, after_records, end_of}
 use Rattle.primary.specs.Running.{AreAccepted, Fits}
-use Rattle.primary.specs.Starts.{tables_shown, IsStart, after, begun, fold_from}
+use Rattle.primary.specs.Starts.{IsStart, first_ahead, after, begun, fold_from}
 use Rattle.primary.proofs.DictionaryLaws.{dictionary_kept, record_keeps}
 use Rattle.primary.proofs.FitLaws.{none_first, none_second, changed_at, mapped_is, fits_after}
-use Rattle.primary.proofs.FoldsLaw.{progress_folds}
+use Rattle.primary.proofs.FoldsLaw.{IfGoing, Waits, waits_vectors, waits_record, progress_folds}
 use Rattle.primary.proofs.LiveLaws.{opened_changes, closed_changes, rechanged_changes, nothing_rises}
-use Rattle.primary.proofs.StepLaws.{commit_is, sound_then}
+use Rattle.primary.proofs.StepLaws.{commit_is, sound_then, sound_without}
 use Rattle.primary.proofs.TableLaws.{definitions_assembled}
 use Rattle.primary.proofs.WalkLaws.{halted}
 
@@ -260,16 +261,16 @@ as_progress : (last : Standing) (p : Progress) → IsSound last last p → IsSou
 as_progress last (Ended f) g = g
 as_progress last (Going a) g = subst (λ (t : Standing). GoesSound t t a) (sym g.standing) g
 
-names_then : (b : Bool) (tables : Tables) (s t : Standing) → (b ≡ true → definitions_of tables ≡ s.dictionary.tables) → (b ≡ true → t.dictionary ≡ s.dictionary) → t.dictionary.finished ≡ true →
-    definitions_of (tables_then b tables t) ≡ t.dictionary.tables
-names_then true tables s t named same whole = named refl ∙ ap (λ (d : Dictionary). d.tables) (sym (same refl))
-names_then false tables s t named same whole =
+names_then : (b : Bool) (rows : RowsById) (tables : Tables) (s t : Standing) → (b ≡ true → definitions_of tables ≡ s.dictionary.tables) → (b ≡ true → t.dictionary ≡ s.dictionary) → t.dictionary.finished ≡ true →
+    definitions_of (tables_then b rows tables t) ≡ t.dictionary.tables
+names_then true rows tables s t named same whole = named refl ∙ ap (λ (d : Dictionary). d.tables) (sym (same refl))
+names_then false rows tables s t named same whole =
     let none : Tables = [] in
-    ap (λ b. definitions_of (cond b (assembled t.dictionary.tables []) none)) whole ∙ definitions_assembled t.dictionary.tables []
+    ap (λ b. definitions_of (cond b (assembled t.dictionary.tables rows) none)) whole ∙ definitions_assembled t.dictionary.tables rows
 
-record_sound : (skips : List Skip) (e : Entry) (p : Progress) → AllByRecursion HasCells e.1.vectors → IsSoundProgress p → IsSoundProgress (after_record skips e p)
-record_sound skips (h, r) (Ended f) cells g = g
-record_sound skips (h, r) (Going a) cells g = by (record_fault a.standing (h, r)) refl
+record_sound : (skips : List Skip) (e : Entry) (p : Progress) → AllByRecursion HasCells e.1.vectors → RowsAreSound e p → IsSoundProgress p → IsSoundProgress (after_record skips e p)
+record_sound skips (h, r) (Ended f) cells rows g = g
+record_sound skips (h, r) (Going a) cells rows g = by (record_fault a.standing (h, r)) refl
   where
     by : (o : Option LawFault) → record_fault a.standing (h, r) ≡ o → IsSoundProgress (judged o skips (h, r) a)
     by (Some fault) is = g.sound
@@ -281,15 +282,136 @@ record_sound skips (h, r) (Going a) cells g = by (record_fault a.standing (h, r)
           standing = refl;
           fits = record { opens = record { rising = g.fits.opens.rising; alike = g.fits.opens.alike }; accepted = g.fits.accepted; none = g.fits.none };
           cells = g.cells;
-          sound = sound_then s.dictionary.finished a.tables last g.sound;
-          named = names_then s.dictionary.finished a.tables s last g.named keeps;
+          sound = sound_then s.dictionary.finished a.waiting a.tables last (λ whole. g.sound) (rows is);
+          named = names_then s.dictionary.finished a.waiting a.tables s last g.named keeps;
         } in
         as_progress last (after_vectors skips r.scn (s.rec + 1) 1 r.vectors (Going (entered (h, r) a)))
         (vectors_sound skips last h r.scn (s.rec + 1) 1 r.vectors (entered_standing (h, r) s) (Going (entered (h, r) a)) (none_second (whole_fault s (h, r)) _ is) refl cells begins)
 
-records_sound : (skips : List Skip) (es : List Entry) (p : Progress) → AreOfCells es → IsSoundProgress p → IsSoundProgress (after_records skips es p)
-records_sound skips [] p cells g = g
-records_sound skips (e ∷ es) p cells g = records_sound skips es (after_record skips e p) cells.1 (record_sound skips e p cells.0 g)
+-- ---- the rows that wait
+
+-- they are sound as each of these records comes
+abbrev pub SoundAhead : List Skip → List Entry → Progress → Type 0
+SoundAhead skips [] p = Unit {0}
+SoundAhead skips (e ∷ es) p = RowsAreSound e p × SoundAhead skips es (after_record skips e p)
+
+ended_ahead : (skips : List Skip) (es : List Entry) (f : Folded) → SoundAhead skips es (Ended f)
+ended_ahead skips [] f = tt
+ended_ahead skips (e ∷ es) f = (tt, ended_ahead skips es f)
+
+-- a dictionary that is whole is that of the end
+admission_keeps : (es : List Entry) (s : Standing) (hist : History) → s.dictionary.finished ≡ true → (admission s hist es).standing.dictionary ≡ s.dictionary
+admission_keeps [] s hist whole = refl
+admission_keeps (e ∷ es) s hist whole =
+    elim (record_fault s e) as (λ o. record_fault s e ≡ o → (admitted_or o (dictionary_left s e) s hist (admission (record_after e s) (history_after (s.rec + 1) e hist) es)).standing.dictionary ≡ s.dictionary) [
+      | None ↦ λ fits.
+          let same = record_keeps e s fits whole in
+          admission_keeps es (record_after e s) (history_after (s.rec + 1) e hist) (ap (λ (d : Dictionary). d.finished) same ∙ whole) ∙ same
+      | Some fault ↦ λ is. refl
+    ] refl
+
+abbrev pub BaseIsSound : Plain → Standing → Type 0
+BaseIsSound start s = AreSound (tables_shown s.dictionary.finished s.dictionary.tables start.tables)
+
+-- before the first of these records
+first_sound : (start : Plain) (es : List Entry) (s : Standing) (hist : History) → BaseIsSound start (admission s hist es).standing → BaseIsSound start s
+first_sound start es s hist sound =
+    elim s.dictionary.finished as (λ b. s.dictionary.finished ≡ b → AreSound (tables_shown b s.dictionary.tables start.tables)) [
+      | true ↦ λ whole.
+          let same = admission_keeps es s hist whole in
+          subst (λ (d : Dictionary). AreSound (tables_shown true d.tables start.tables)) same
+          (subst (λ (b : Bool). AreSound (tables_shown b (admission s hist es).standing.dictionary.tables start.tables)) (ap (λ (d : Dictionary). d.finished) same ∙ whole) sound)
+      | false ↦ λ part. tt
+    ] refl
+
+sound_ahead : (start : Plain) (skips : List Skip) (es : List Entry) (a : Ahead) (hist : History) → Waits start a.standing a.waiting → BaseIsSound start (admission a.standing hist es).standing → SoundAhead skips es (Going a)
+sound_ahead start skips [] a hist waits sound = tt
+sound_ahead start skips (e ∷ es) a hist waits sound =
+    elim (record_fault a.standing e) as (λ o. record_fault a.standing e ≡ o →
+    BaseIsSound start (admitted_or o (dictionary_left a.standing e) a.standing hist (admission (record_after e a.standing) (history_after (a.standing.rec + 1) e hist) es)).standing → SoundAhead skips (e ∷ es) (Going a)) [
+      | None ↦ λ fits later. (
+        λ none part.
+            let next = record_after e a.standing in
+            subst (λ (rows : RowsById). AreSound (tables_shown next.dictionary.finished next.dictionary.tables rows)) (sym (waits part)) (first_sound start es next (history_after (a.standing.rec + 1) e hist) later),
+        goes_on (λ b waits_b sound_b. sound_ahead start skips es b (history_after (a.standing.rec + 1) e hist) waits_b sound_b) (after_record skips e (Going a)) (waits_record start skips e a fits waits) later,
+      )
+      | Some fault ↦ λ is later. (
+        λ none part. let both : Some fault ≡ None = sym is ∙ none in absurd (cc),
+        subst (λ (o : Option LawFault). SoundAhead skips es (judged o skips e a)) (sym is) (ended_ahead skips es _),
+      )
+    ] refl sound
+  where
+    goes_on : ((b : Ahead) → Waits start b.standing b.waiting → BaseIsSound start (admission b.standing (history_after (a.standing.rec + 1) e hist) es).standing → SoundAhead skips es (Going b)) →
+        (p : Progress) → IfGoing p (λ b. (b.standing ≡ record_after e a.standing) × Waits start b.standing b.waiting) →
+        BaseIsSound start (admission (record_after e a.standing) (history_after (a.standing.rec + 1) e hist) es).standing → SoundAhead skips es p
+    goes_on again (Ended f) is later = ended_ahead skips es f
+    goes_on again (Going b) is later = again b is.1 (subst (λ (s : Standing). BaseIsSound start (admission s (history_after (a.standing.rec + 1) e hist) es).standing) (sym is.0) later)
+
+-- from a start on
+pub start_ahead : (start : Plain) (skips : List Skip) (es : List Entry) → IsStart start es → SoundAhead skips es (begun start)
+start_ahead start skips es is = sound_ahead start skips es (first_ahead start) (no_history start.before) (λ part. ap (λ b. waiting_until b start.tables) part) is.sound
+
+-- before the first record
+pub starts_empty : (start : Plain) (es : List Entry) → IsStart start es → IsStart start []
+starts_empty start es is = record { sound = first_sound start es (standing_of start.law) (no_history start.before) is.sound; counted = is.counted }
+
+-- the record at this place
+pub ahead_item : (skips : List Skip) (es : List Entry) (i : ℕ) (or e : Entry) (p : Progress) → i < length es → e ≡ get_or es i or → SoundAhead skips (drop i es) p → RowsAreSound e p
+ahead_item skips [] i or e p inside is ahead = absurd (omega (arith, inside))
+ahead_item skips (x ∷ xs) zero or e p inside is ahead = subst (λ (d : Entry). RowsAreSound d p) (sym is) ahead.0
+ahead_item skips (x ∷ xs) (suc i) or e p inside is ahead = ahead_item skips xs i or e p (omega (arith, inside)) is ahead
+
+at_each : (skips : List Skip) (front : List Entry) (e : Entry) (back : List Entry) (p : Progress) → SoundAhead skips (front ++ e ∷ back) p → RowsAreSound e (after_records skips front p)
+at_each skips [] e back p ahead = ahead.0
+at_each skips (f ∷ front) e back p ahead = at_each skips front e back (after_record skips f p) ahead.1
+
+pub sound_at_each : (start : Plain) (skips : List Skip) (front : List Entry) (e : Entry) (back : List Entry) → IsStart start (front ++ e ∷ back) → RowsAreSound e (after start skips front)
+sound_at_each start skips front e back is = at_each skips front e back (begun start) (start_ahead start skips (front ++ e ∷ back) is)
+
+-- no rows are sound
+pub none_sound : (e : Entry) (p : Progress) → NoneWait p → RowsAreSound e p
+none_sound e (Ended f) none = tt
+none_sound e (Going a) none = λ fits part.
+    let next = record_after e a.standing in
+    subst (λ (rows : RowsById). AreSound (tables_shown next.dictionary.finished next.dictionary.tables rows)) (sym none) (sound_without next.dictionary.finished next.dictionary.tables)
+
+still_none : (b : Bool) (rows : RowsById) → rows ≡ [] → waiting_until b rows ≡ []
+still_none true rows none = refl
+still_none false rows none = none
+
+-- and none wait later
+pub none_later : (skips : List Skip) (e : Entry) (p : Progress) → NoneWait p → NoneWait (after_record skips e p)
+none_later skips e (Ended f) none = tt
+none_later skips (h, r) (Going a) none = by (record_fault a.standing (h, r))
+  where
+    waits : (p : Progress) → IfGoing p (λ b. b.waiting ≡ []) → NoneWait p
+    waits (Going b) is = is
+    waits (Ended f) is = tt
+
+    by : (o : Option LawFault) → NoneWait (judged o skips (h, r) a)
+    by (Some fault) = tt
+    by None = waits (after_vectors skips r.scn (a.standing.rec + 1) 1 r.vectors (Going (entered (h, r) a)))
+        (waits_vectors skips r.scn (a.standing.rec + 1) 1 r.vectors (Going (entered (h, r) a)) (λ s rows. rows ≡ []) (still_none (record_after (h, r) a.standing).dictionary.finished a.waiting none))
+
+-- over the tables of a whole dictionary any records may come
+pub whole_start : (start : Plain) (es : List Entry) → start.law.dict.finished ≡ true → IsStart start [] → IsStart start es
+whole_start start es whole is = record {
+  sound = subst (λ (d : Dictionary). AreSound (tables_shown d.finished d.tables start.tables)) (sym (admission_keeps es (standing_of start.law) (no_history start.before) whole)) is.sound;
+  counted = is.counted;
+}
+
+-- and over no rows
+pub empty_start : (start : Plain) (es : List Entry) → start.tables ≡ [] → start.before ≤ start.n → IsStart start es
+empty_start start es none counted =
+    let s = (admission (standing_of start.law) (no_history start.before) es).standing in
+    record {
+      sound = subst (λ (rows : RowsById). AreSound (tables_shown s.dictionary.finished s.dictionary.tables rows)) (sym none) (sound_without s.dictionary.finished s.dictionary.tables);
+      counted = counted;
+    }
+
+records_sound : (skips : List Skip) (es : List Entry) (p : Progress) → AreOfCells es → SoundAhead skips es p → IsSoundProgress p → IsSoundProgress (after_records skips es p)
+records_sound skips [] p cells rows g = g
+records_sound skips (e ∷ es) p cells rows g = records_sound skips es (after_record skips e p) cells.1 rows.1 (record_sound skips e p cells.0 rows.0 g)
 
 end_sound : (stop : Stop) (p : Progress) → IsSoundProgress p → AreSound (end_of stop p).tables
 end_sound stop (Going a) g = g.sound
@@ -297,23 +419,19 @@ end_sound stop (Ended f) g = g
 
 -- ---- a fold
 
-shown_sound : (b : Bool) (ts : List TableRow) (by : RowsById) → (b ≡ true → AreSound (assembled ts by)) → AreSound (tables_shown b ts by)
-shown_sound true ts by is = is refl
-shown_sound false ts by is = tt
-
-begun_sound : (start : Plain) → IsStart start → IsSoundProgress (begun start)
-begun_sound start is = record {
+begun_sound : (start : Plain) (es : List Entry) → IsStart start es → IsSoundProgress (begun start)
+begun_sound start es is = record {
   standing = refl;
   fits = record { opens = record { rising = nothing_rises; alike = λ y. refl }; accepted = λ y ps e. absurd (cc); none = λ part. refl };
   cells = λ y ps e. absurd (cc);
-  sound = shown_sound start.law.dict.finished start.law.dict.tables start.tables is.sound;
+  sound = first_sound start es (standing_of start.law) (no_history start.before) is.sound;
   named = λ whole.
       let none : Tables = [] in
       ap (λ b. definitions_of (cond b (assembled start.law.dict.tables start.tables) none)) whole ∙ definitions_assembled start.law.dict.tables start.tables;
 }
 
 -- A fold that may begin leaves sound tables.
-pub fold_sound : (start : Plain) (skips : List Skip) (es : List Entry) (stop : Stop) → IsStart start → AreOfCells es → AreSound (fold_from start skips es stop).tables
+pub fold_sound : (start : Plain) (skips : List Skip) (es : List Entry) (stop : Stop) → IsStart start es → AreOfCells es → AreSound (fold_from start skips es stop).tables
 fold_sound start skips es stop is cells =
-    subst (λ (f : Folded). AreSound f.tables) (progress_folds start skips es stop is)
-    (end_sound stop (after start skips es) (records_sound skips es (begun start) cells (begun_sound start is)))
+    subst (λ (f : Folded). AreSound f.tables) (progress_folds start skips es stop is.counted)
+    (end_sound stop (after start skips es) (records_sound skips es (begun start) cells (start_ahead start skips es is) (begun_sound start es is)))

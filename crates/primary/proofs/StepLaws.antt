@@ -12,28 +12,33 @@ use Rattle.redo_vec.specs.declared.vector.Vector.{Vector}
 use Rattle.redo_vec.specs.declared.vector.Vector.TheVariants.{Start, Change as OfChange, Undo, Commit, Rollback, Table, DictEnd}
 use Rattle.redo_spec.specs.declared.header.Header.{Header}
 use Rattle.redo_spec.specs.Dictionary.{Dictionary}
-use Rattle.redo_spec.specs.Tables.{Tables, RowsById, assembled, empty_tables, definitions_of, row_count}
-use Rattle.redo_law.specs.Calls.{Judges, Leaves}
+use Rattle.redo_spec.specs.Tables.{Tables, RowsById, assembled, empty_tables, definitions_of}
+use Rattle.redo_law.specs.Calls.{Judges, Leaves, standing_of}
+use Rattle.primary.specs.declared.plain.Plain.{Plain}
 use Rattle.redo_law.specs.declared.fault.AdmitFault.{AdmitFault}
 use Rattle.redo_law.specs.declared.fault.AdmitFault.TheVariants as admits
 use Rattle.redo_spec.specs.History.{Placed}
 use Rattle.redo_spec.specs.Standing.{Standing, entered as entered_standing, standing_after, standing_after_all, record_after}
 use Rattle.redo_spec.specs.Law.{dictionary_fault, vector_fault, vectors_fault, whole_fault, record_fault, dictionary_left}
 use Rattle.redo_spec.specs.Skips.{Skip}
-use Rattle.redo_spec.specs.Fold.{known_tables, effects}
+use Rattle.redo_spec.specs.Fold.{effects}
 use Rattle.row_apply.specs.Soundness.{AreSound}
-use Rattle.primary.specs.Progress.{OpenChanges, changes_of, Ahead, Progress, Going, Ended, held_at, live_after, commit_of, with_commit, applied, ended_or, tables_or, kept_of, recs_of, vector_taken, after_vectors, tables_then, entered, judged, after_record}
-use Rattle.primary.specs.declared.plain.Plain.{Plain}
-use Rattle.primary.specs.Starts.{tables_shown, IsStart}
+use Rattle.primary.specs.Progress.{OpenChanges, changes_of, Ahead, Progress, Going, Ended, held_at, live_after, commit_of, with_commit, applied, ended_or, tables_or, kept_of, recs_of, vector_taken, after_vectors, tables_shown, waiting_until, tables_then, entered, RowsAreSound, judged, after_record}
 use Rattle.primary.specs.Running.{AreAccepted, Fits, AreKept, IsKept, IsRunning, MayCommit, ahead_of, tables_of, progress_of}
 use Rattle.primary.specs.declared.running.Running.{Running}
 use Rattle.primary.proofs.FitLaws.{none_first, none_second, no_fault, is_whole, fits_after}
 use Rattle.primary.proofs.DictionaryLaws.{dictionary_kept, record_keeps, left_same}
 use Rattle.primary.specs.declared.unique_index.UniqueIndex.{UniqueIndex}
 use Rattle.primary.proofs.FoldsLaw.{ended_vectors}
+use Rattle.primary.proofs.LiveLaws.{nothing_rises}
 use Rattle.primary.proofs.TableLaws.{rows_counted}
 use Rattle.primary.proofs.WalkLaws.{halted}
 
+-- before the first record of a fold no transaction is open
+pub fits_first : (start : Plain) → Fits (standing_of start.law) []
+fits_first start = record { opens = record { rising = nothing_rises; alike = λ y. refl }; accepted = λ y ps e. absurd (cc); none = λ part. refl }
+
+-- what holds between two vectors of a record
 pub record Steps (skips : List Skip) (h : Header) (r : RedoRec) (old now : Running) (vec : ℕ) (rest : List Vector) : Type 0 where
   pub at : Standing
   pub fits : Fits at now.live
@@ -42,8 +47,8 @@ pub record Steps (skips : List Skip) (h : Header) (r : RedoRec) (old now : Runni
   pub rec : now.rec ≡ now.law.rec
   pub whole : now.whole ≡ now.law.dictionary.finished
   pub sound : AreSound (tables_of now)
-  pub kept : IsKept now
-  pub none : now.whole ≡ false → now.tables ≡ []
+  pub kept : now.whole ≡ true → IsKept now
+  pub rows : RowsAreSound (h, r) (Going (ahead_of old))
   pub small : vec + length rest ≤ 256
   pub goes : after_vectors skips r.scn now.rec vec rest (Going (ahead_of now)) ≡ after_record skips (h, r) (Going (ahead_of old))
 
@@ -59,78 +64,43 @@ sound_empty (t ∷ ts) = (
   sound_empty ts,
 )
 
-pub sound_known : (s : Standing) → AreSound (known_tables s)
-sound_known s = by s.dictionary.finished
-  where
-    by : (b : Bool) → AreSound (cond b (empty_tables s.dictionary.tables) [])
-    by true = sound_empty s.dictionary.tables
-    by false = tt
-
-pub sound_at_start : (start : Plain) → IsStart start → AreSound (assembled start.law.dict.tables start.tables)
-sound_at_start start is = by start.law.dict.finished refl
-  where
-    by : (b : Bool) → start.law.dict.finished ≡ b → AreSound (assembled start.law.dict.tables start.tables)
-    by true whole = is.sound whole
-    by false part =
-        let P : RowsById → Type 0 = λ rows. AreSound (assembled start.law.dict.tables rows) in
-        subst P (sym (is.none part)) (sound_empty start.law.dict.tables)
-
 -- as an admitted record begins, the rows show the tables that the progress has
-retabled : (b : Bool) (s : Standing) (h : Header) (r : RedoRec) (old now : Running) → old.whole ≡ b → IsRunning old → record_fault old.law (h, r) ≡ None → now.law ≡ record_after (h, r) old.law → now.tables ≡ old.tables →
-    now.whole ≡ now.law.dictionary.finished → tables_of now ≡ tables_then b (tables_of old) (record_after (h, r) old.law)
-retabled true s h r old now is run fits law tables whole =
+retabled : (b : Bool) (h : Header) (r : RedoRec) (old now : Running) → old.whole ≡ b → IsRunning old → record_fault old.law (h, r) ≡ None → now.law ≡ record_after (h, r) old.law → now.tables ≡ old.tables →
+    now.whole ≡ now.law.dictionary.finished → tables_of now ≡ tables_then b (waiting_until b old.tables) (tables_of old) (record_after (h, r) old.law)
+retabled true h r old now is run fits law tables whole =
     let same : now.law.dictionary ≡ old.law.dictionary = ap (λ t. t.dictionary) law ∙ record_keeps (h, r) old.law fits (sym run.whole ∙ is) in
     let still : now.whole ≡ old.whole = whole ∙ ap (λ d. d.finished) same ∙ sym run.whole in
     λ i. tables_shown (still i) (same i).tables (tables i)
-retabled false s h r old now is run fits law tables whole =
-    let none : now.tables ≡ [] = tables ∙ run.none is in
-    (λ i. tables_shown (whole i) now.law.dictionary.tables (none i)) ∙ ap known_tables law
+retabled false h r old now is run fits law tables whole =
+    (λ i. tables_shown (whole i) now.law.dictionary.tables (tables i)) ∙ ap (λ t. tables_shown t.dictionary.finished t.dictionary.tables old.tables) law
 
-pub sound_then : (b : Bool) (tables : Tables) (s : Standing) → AreSound tables → AreSound (tables_then b tables s)
-sound_then true tables s sound = sound
-sound_then false tables s sound = sound_known s
+-- and those rows wait that waited, unless the dictionary has ended
+waiting_on : (b : Bool) (h : Header) (r : RedoRec) (old now : Running) → old.whole ≡ b → IsRunning old → record_fault old.law (h, r) ≡ None → now.law ≡ record_after (h, r) old.law → now.tables ≡ old.tables →
+    now.whole ≡ now.law.dictionary.finished → waiting_until now.whole now.tables ≡ waiting_until (record_after (h, r) old.law).dictionary.finished (waiting_until b old.tables)
+waiting_on true h r old now is run fits law tables whole =
+    let still : (record_after (h, r) old.law).dictionary.finished ≡ true = ap (λ d. d.finished) (record_keeps (h, r) old.law fits (sym run.whole ∙ is)) ∙ sym run.whole ∙ is in
+    ap (λ b. waiting_until b now.tables) (whole ∙ ap (λ t. t.dictionary.finished) law ∙ still) ∙ sym (ap (λ b. waiting_until b []) still)
+waiting_on false h r old now is run fits law tables whole = λ i. waiting_until ((whole ∙ ap (λ t. t.dictionary.finished) law) i) (tables i)
 
-no_rows : (ts : List TableRow) → row_count (assembled ts []) ≡ 0
-no_rows [] = refl
-no_rows (t ∷ ts) =
-    let first = rows_counted t ts [] in
-    let later = no_rows ts in
-    omega (arith, first, later)
-
--- without rows there is nothing to lead to
-pub nothing_kept : (ts : List TableRow) (by : RowsById) (index : UniqueIndex) (count : ℕ) → by ≡ [] → count ≡ 0 → AreKept ts by index count
-nothing_kept ts by index count none zero =
-    let P : RowsById → Type 0 = λ rows. AreKept ts rows index count in
-    subst P (sym none) (record {
-      indexed = λ id t is key row q found has. absurd (cc);
-      counted = zero ∙ sym (no_rows ts);
-    })
-
--- as an admitted record begins
-kept_then : (b : Bool) (h : Header) (r : RedoRec) (old now : Running) → old.whole ≡ b → IsRunning old → record_fault old.law (h, r) ≡ None → now.law ≡ record_after (h, r) old.law → now.tables ≡ old.tables →
-    now.index ≡ old.index → now.count ≡ old.count → IsKept now
-kept_then true h r old now is run fits law tables index count =
-    let same : now.law.dictionary ≡ old.law.dictionary = ap (λ t. t.dictionary) law ∙ record_keeps (h, r) old.law fits (sym run.whole ∙ is) in
-    let P : Dictionary → Type 0 = λ d. AreKept d.tables old.tables old.index old.count in
-    let Q : RowsById → Type 0 = λ rows. AreKept now.law.dictionary.tables rows old.index old.count in
-    let R : UniqueIndex → Type 0 = λ found. AreKept now.law.dictionary.tables now.tables found old.count in
-    let S : ℕ → Type 0 = λ rows. AreKept now.law.dictionary.tables now.tables now.index rows in
-    subst S (sym count) (subst R (sym index) (subst Q (sym tables) (subst P (sym same) run.kept)))
-kept_then false h r old now is run fits law tables index count =
-    let none : old.tables ≡ [] = run.none is in
-    nothing_kept now.law.dictionary.tables now.tables now.index now.count (tables ∙ none)
-    (count ∙ run.kept.counted ∙ ap (λ rows. row_count (assembled old.law.dictionary.tables rows)) none ∙ no_rows old.law.dictionary.tables)
+pub sound_then : (b : Bool) (rows : RowsById) (tables : Tables) (s : Standing) → (b ≡ true → AreSound tables) → (b ≡ false → AreSound (tables_then false rows tables s)) → AreSound (tables_then b rows tables s)
+sound_then true rows tables s sound later = sound refl
+sound_then false rows tables s sound later = later refl
 
 pub rec_all : (vec : ℕ) (vs : List Vector) (s : Standing) → (standing_after_all vec vs s).rec ≡ s.rec
 rec_all vec [] s = refl
 rec_all vec (v ∷ vs) s = rec_all (vec + 1) vs (standing_after vec v s)
 
+-- a record that is admitted leaves a whole dictionary, and what is kept beside its rows
+pub still_whole : (h : Header) (r : RedoRec) (old : Running) → IsRunning old → record_fault old.law (h, r) ≡ None → old.whole ≡ true → (record_after (h, r) old.law).dictionary ≡ old.law.dictionary
+still_whole h r old run fits whole = record_keeps (h, r) old.law fits (sym run.whole ∙ whole)
+
 pub steps_begin : (skips : List Skip) (h : Header) (r : RedoRec) (old now : Running) → IsRunning old → record_fault old.law (h, r) ≡ None → now.law ≡ record_after (h, r) old.law → now.tables ≡ old.tables →
-    now.live ≡ old.live → now.made ≡ old.made → now.n ≡ old.n → now.scn ≡ old.scn → now.rec ≡ old.rec + 1 → now.whole ≡ now.law.dictionary.finished → now.index ≡ old.index → now.count ≡ old.count → length r.vectors ≤ 255 → Steps skips h r old now 1 r.vectors
-steps_begin skips h r old now run fits law tables live made n scn rec whole index count small =
-    let seen : tables_of now ≡ tables_then old.whole (tables_of old) (record_after (h, r) old.law) = retabled old.whole old.law h r old now refl run fits law tables whole in
-    let shown : tables_of now ≡ tables_then old.law.dictionary.finished (tables_of old) (record_after (h, r) old.law) = seen ∙ ap (λ b. tables_then b (tables_of old) (record_after (h, r) old.law)) run.whole in
-    let P : Tables → Type 0 = λ ts. AreSound ts in
+    now.live ≡ old.live → now.made ≡ old.made → now.n ≡ old.n → now.scn ≡ old.scn → now.rec ≡ old.rec + 1 → now.whole ≡ now.law.dictionary.finished → AreSound (tables_of now) → (now.whole ≡ true → IsKept now) → length r.vectors ≤ 255 → Steps skips h r old now 1 r.vectors
+steps_begin skips h r old now run fits law tables live made n scn rec whole sound kept small =
+    let next = record_after (h, r) old.law in
+    let shown : tables_of now ≡ tables_then old.law.dictionary.finished (waiting_until old.whole old.tables) (tables_of old) next =
+    retabled old.whole h r old now refl run fits law tables whole ∙ ap (λ b. tables_then b (waiting_until old.whole old.tables) (tables_of old) next) run.whole in
+    let waits : waiting_until now.whole now.tables ≡ waiting_until next.dictionary.finished (waiting_until old.whole old.tables) = waiting_on old.whole h r old now refl run fits law tables whole in
     let Q : OpenChanges → Type 0 = λ l. Fits (entered_standing (h, r) old.law) l in
     let number : now.rec ≡ old.law.rec + 1 = rec ∙ ap (λ (k : ℕ). k + 1) run.rec in
     record {
@@ -140,26 +110,16 @@ steps_begin skips h r old now run fits law tables live made n scn rec whole inde
       last = sym law;
       rec = number ∙ sym (rec_after (h, r) old.law) ∙ ap (λ s. s.rec) (sym law);
       whole = whole;
-      sound = subst P (sym seen) (sound_then old.whole (tables_of old) (record_after (h, r) old.law) run.sound);
-      kept = kept_then old.whole h r old now refl run fits law tables index count;
-      none = λ part. tables ∙ run.none (was_part part);
+      sound = sound;
+      kept = kept;
+      rows = λ none part. subst (λ (b : Bool). AreSound (tables_then b (waiting_until old.whole old.tables) (tables_of old) next)) part (subst (λ (ts : Tables). AreSound ts) shown sound);
       small = omega (arith, small);
-      goes = (λ i. after_vectors skips r.scn (number i) 1 r.vectors (Going (record { standing = law i; live = live i; made = made i; n = n i; scn = scn i; tables = shown i })))
+      goes = (λ i. after_vectors skips r.scn (number i) 1 r.vectors (Going (record { standing = law i; live = live i; made = made i; n = n i; scn = scn i; waiting = waits i; tables = shown i })))
           ∙ ap (λ o. judged o skips (h, r) (ahead_of old)) (sym fits);
     }
   where
     rec_after : (e : Header × RedoRec) (s : Standing) → (record_after e s).rec ≡ s.rec + 1
     rec_after (g, q) s = rec_all 1 q.vectors (entered_standing (g, q) s)
-
-    was_part : now.whole ≡ false → old.whole ≡ false
-    was_part part = by old.whole refl
-      where
-        by : (b : Bool) → old.whole ≡ b → b ≡ false
-        by false is = refl
-        by true is =
-            let same : (record_after (h, r) old.law).dictionary ≡ old.law.dictionary = record_keeps (h, r) old.law fits (sym run.whole ∙ is) in
-            let whole_still : now.whole ≡ true = whole ∙ ap (λ s. s.dictionary.finished) law ∙ ap (λ d. d.finished) same ∙ sym run.whole ∙ is in
-            sym whole_still ∙ part
 
 pub commit_is : (h : Header) (s : Standing) (v : Vector) (live : OpenChanges) (ps : List Placed) → Fits s live → vector_fault h s v ≡ None → commit_of v live ≡ Some ps → (s.dictionary.finished ≡ true) × AreAccepted s.dictionary.tables ps
 commit_is h s (Start x) live ps f fits is = absurd (cc)
@@ -187,9 +147,9 @@ commit_may skips h r old now vec v rest ps s is =
 
 -- one vector more, without a commit or with one that was applied
 pub steps_more : (skips : List Skip) (h : Header) (r : RedoRec) (old now after : Running) (vec : ℕ) (v : Vector) (rest : List Vector) → Steps skips h r old now vec (v ∷ rest) →
-    after.law ≡ now.law → after.rec ≡ now.rec → after.whole ≡ now.whole → after.live ≡ live_after (record { rec = now.rec; vec = vec }) v now.live → AreSound (tables_of after) → IsKept after → (after.whole ≡ false → after.tables ≡ []) →
+    after.law ≡ now.law → after.rec ≡ now.rec → after.whole ≡ now.whole → after.live ≡ live_after (record { rec = now.rec; vec = vec }) v now.live → AreSound (tables_of after) → (after.whole ≡ true → IsKept after) →
     Going (ahead_of after) ≡ with_commit skips r.scn (commit_of v now.live) (record (ahead_of now) { live = live_after (record { rec = now.rec; vec = vec }) v now.live }) → Steps skips h r old after (vec + 1) rest
-steps_more skips h r old now after vec v rest s law rec whole live sound kept none goes =
+steps_more skips h r old now after vec v rest s law rec whole live sound kept goes =
     let at : Pos = record { rec = now.rec; vec = vec } in
     let Q : OpenChanges → Type 0 = λ l. Fits (standing_after vec v s.at) l in
     let small = s.small in
@@ -202,7 +162,7 @@ steps_more skips h r old now after vec v rest s law rec whole live sound kept no
       whole = whole ∙ s.whole ∙ ap (λ t. t.dictionary.finished) (sym law);
       sound = sound;
       kept = kept;
-      none = none;
+      rows = s.rows;
       small = omega (arith, small);
       goes = (λ i. after_vectors skips r.scn (rec i) (vec + 1) rest (goes i)) ∙ s.goes;
     }
@@ -217,7 +177,7 @@ steps_end skips h r old now after vec v rest end s is =
 pub steps_done : (skips : List Skip) (h : Header) (r : RedoRec) (old now : Running) (vec : ℕ) → Steps skips h r old now vec [] → IsRunning now
 steps_done skips h r old now vec s =
     let P : Standing → Type 0 = λ t. Fits t now.live in
-    record { fits = subst P s.last s.fits; whole = s.whole; rec = s.rec; sound = s.sound; kept = s.kept; none = s.none }
+    record { fits = subst P s.last s.fits; whole = s.whole; rec = s.rec; sound = s.sound; kept = s.kept }
 
 -- a bad record leaves the tables as they are
 bad_leaves : (h : Header) (r : RedoRec) (old after : Running) → IsRunning old → after.law.dictionary ≡ dictionary_left old.law (h, r) → after.tables ≡ old.tables → after.whole ≡ old.whole → tables_of after ≡ tables_of old
@@ -240,6 +200,10 @@ pub bad_sound : (h : Header) (r : RedoRec) (old after : Running) → IsRunning o
 bad_sound h r old after run left tables whole =
     let P : Tables → Type 0 = λ ts. AreSound ts in
     subst P (sym (bad_leaves h r old after run left tables whole)) run.sound
+
+-- rows that wait are not looked at
+pub bad_rows : (h : Header) (r : RedoRec) (old : Running) (fault : LawFault) → record_fault old.law (h, r) ≡ Some fault → RowsAreSound (h, r) (Going (ahead_of old))
+bad_rows h r old fault is = λ none part. let both : Some fault ≡ None = sym is ∙ none in absurd (cc)
 
 -- no rows are sound tables
 pub sound_without : (whole : Bool) (ts : List TableRow) → AreSound (tables_shown whole ts [])

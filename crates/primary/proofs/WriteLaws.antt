@@ -330,14 +330,14 @@ indexing_more ts final now after w rest old new s sound follows is = record {
 pub record Entering (t : TableRow) (all rest : Rows) (before index : UniqueIndex) : Type 0 where
   pub sorted : T (entries.is_sorted row_cmp rest)
   pub alike : (key row : List Value) → entries.find row_cmp key rest ≡ Some row → entries.find row_cmp key all ≡ Some row
-  pub led : (key row : List Value) (q : Key) → entries.find row_cmp key all ≡ Some row → has_unique t row q ≡ true → entries.find row_cmp key rest ≡ None → lead_of index q ≡ Some key
+  pub led : AreSoundRows t all → (key row : List Value) (q : Key) → entries.find row_cmp key all ≡ Some row → has_unique t row q ≡ true → entries.find row_cmp key rest ≡ None → lead_of index q ≡ Some key
   pub others : (q : Key) → (q.table == t.id) ≡ false → lead_of index q ≡ lead_of before q
 
 pub entering_begins : (t : TableRow) (all : Rows) (index : UniqueIndex) → T (entries.is_sorted row_cmp all) → Entering t all all index index
 entering_begins t all index sorted = record {
   sorted = sorted;
   alike = λ key row found. found;
-  led = λ key row q found has none. let both : Some row ≡ None = sym found ∙ none in absurd (cc);
+  led = λ sound key row q found has none. let both : Some row ≡ None = sym found ∙ none in absurd (cc);
   others = λ q other. refl;
 }
 
@@ -354,18 +354,18 @@ less_differs Less p = refl
 less_differs Equal p = absurd p
 less_differs Greater p = absurd p
 
-none_below : (key : List Value) (rows : Rows) → T (entries.below_all row_cmp key rows) → entries.find row_cmp key rows ≡ None
+pub none_below : (key : List Value) (rows : Rows) → T (entries.below_all row_cmp key rows) → entries.find row_cmp key rows ≡ None
 none_below key [] h = refl
 none_below key (r ∷ rs) h =
     ap (λ b. cond b (Some r.1) (entries.find row_cmp key rs)) (less_differs (row_cmp key r.0) (and_first _ _ h)) ∙ none_below key rs (and_second (is_lt (row_cmp key r.0)) (entries.below_all row_cmp key rs) h)
 
 -- a row that comes later has another key
-pub entering_more : (t : TableRow) (all : Rows) (k x : List Value) (rest : Rows) (before old new : UniqueIndex) → Entering t all ((k, x) ∷ rest) before old → AreSoundRows t all →
+pub entering_more : (t : TableRow) (all : Rows) (k x : List Value) (rest : Rows) (before old new : UniqueIndex) → Entering t all ((k, x) ∷ rest) before old →
     ((q : Key) → lead_of new q ≡ entered (has_unique t x q) k (lead_of old q)) → Entering t all rest before new
-entering_more t all k x rest before old new s sound follows = record {
+entering_more t all k x rest before old new s follows = record {
   sorted = and_second (entries.below_all row_cmp k rest) (entries.is_sorted row_cmp rest) s.sorted;
   alike = λ key row found. s.alike key row (later key row found);
-  led = λ key row q found has none. follows q ∙ by key row q found has none (eq_by_cmp row_cmp key k) refl;
+  led = λ sound key row q found has none. follows q ∙ by sound key row q found has none (eq_by_cmp row_cmp key k) refl;
   others = λ q other. follows q ∙ ap (λ b. entered b k (lead_of old q)) (is_not (has_unique t x q) (λ has.
       let same : (q.table == t.id) ≡ true = ap (λ (n : ℕ). n == t.id) (has_table t x q has) ∙ self_number t.id in
       cc)) ∙ s.others q other;
@@ -384,19 +384,19 @@ entering_more t all k x rest before old new s sound follows = record {
     own : entries.find row_cmp k all ≡ Some x
     own = s.alike k x (ap (λ b. cond b (Some x) (entries.find row_cmp k rest)) (row_self k))
 
-    by : (key row : List Value) (q : Key) → entries.find row_cmp key all ≡ Some row → has_unique t row q ≡ true → entries.find row_cmp key rest ≡ None → (b : Bool) → eq_by_cmp row_cmp key k ≡ b →
+    by : AreSoundRows t all → (key row : List Value) (q : Key) → entries.find row_cmp key all ≡ Some row → has_unique t row q ≡ true → entries.find row_cmp key rest ≡ None → (b : Bool) → eq_by_cmp row_cmp key k ≡ b →
         entered (has_unique t x q) k (lead_of old q) ≡ Some key
-    by key row q found has none true tie =
+    by sound key row q found has none true tie =
         let same : key ≡ k = row_is key k tie in
         let rows_same : Some row ≡ Some x = sym found ∙ ap (λ l. entries.find row_cmp l all) same ∙ own in
         let one : row ≡ x = cc in
         ap (λ b. entered b k (lead_of old q)) (ap (λ r. has_unique t r q) (sym one) ∙ has) ∙ ap Some (sym same)
-    by key row q found has none false tie =
+    by sound key row q found has none false tie =
         ap (λ b. entered b k (lead_of old q)) (is_not (has_unique t x q) (λ x_has.
         let same : key ≡ k = one_has t all key k row x q sound found own has x_has in
         let ties : eq_by_cmp row_cmp key k ≡ true = ap (λ l. eq_by_cmp row_cmp l k) same ∙ row_self k in
         cc))
-        ∙ s.led key row q found has (ap (λ b. cond b (Some x) (entries.find row_cmp key rest)) tie ∙ none)
+        ∙ s.led sound key row q found has (ap (λ b. cond b (Some x) (entries.find row_cmp key rest)) tie ∙ none)
 
 -- the tables that follow are indexed, and now the first one
 pub indexed_first : (t : TableRow) (ts : List TableRow) (by : RowsById) (old new : UniqueIndex) → IsIndexed ts by old →
@@ -419,11 +419,11 @@ all_of_first (u ∷ us) t some is =
     let count : length (u ∷ us) - 1 ≡ length us = omega arith in
     (λ i. is i ∷ take (count i) us) ∙ ap (λ ts. u ∷ ts) (take-length us)
 
--- the tables behind the first are indexed, and now the first one
+-- the tables behind the first are indexed, and now the first one, where they are sound
 pub indexed_all : {E : Type 0} (result : Result (Unit {0}) E) (all : List TableRow) (t : TableRow) (by : RowsById) (old new : UniqueIndex) → 1 ≤ length all → t ≡ get_or all 0 t →
-    IsIndexed (take (length all - 1) (drop 1 all)) by old → OnOk result (LeadsToRows t (rows_by by t.id) new) → OnOk result ((q : Key) → (q.table == t.id) ≡ false → lead_of new q ≡ lead_of old q) →
-    OnOk result (IsIndexed all by new)
+    (AreSound (assembled (take (length all - 1) (drop 1 all)) by) → IsIndexed (take (length all - 1) (drop 1 all)) by old) → OnOk result (AreSoundRows t (rows_by by t.id) → LeadsToRows t (rows_by by t.id) new) →
+    OnOk result ((q : Key) → (q.table == t.id) ≡ false → lead_of new q ≡ lead_of old q) → OnOk result (AreSound (assembled all by) → IsIndexed all by new)
 indexed_all (Ok x) all t by old new some is indexed own others =
-    let P : List TableRow → Type 0 = λ ts. IsIndexed ts by new in
-    subst P (all_of_first all t some is) (indexed_first t (take (length all - 1) (drop 1 all)) by old new indexed own others)
+    let P : List TableRow → Type 0 = λ ts. AreSound (assembled ts by) → IsIndexed ts by new in
+    subst P (all_of_first all t some is) (λ sound. indexed_first t (take (length all - 1) (drop 1 all)) by old new (indexed sound.1) (own sound.0) others)
 indexed_all (Err e) all t by old new some is indexed own others = tt

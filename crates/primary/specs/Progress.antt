@@ -3,7 +3,7 @@
 -- commits there were, and count, SCN and tables after the last one that was applied. Or it has ended, by the first bad
 -- record, a miss or the row limit, and then nothing changes any more. Commits numbered at most the count where it begins
 -- change nothing.
-use Rattle.std.specs.Prelude.{ℕ, ◌+◌, List, [], ◌∷◌, filter, Bool, true, false, not, nat_lt, if◌then◌else◌, Option, Some, None, Result, Ok, Err, unwrap_or}
+use Rattle.std.specs.Prelude.{ℕ, ◌≡◌, ⊤, ◌+◌, List, [], ◌∷◌, filter, Bool, true, false, not, nat_lt, if◌then◌else◌, Option, Some, None, Result, Ok, Err, unwrap_or}
 use Rattle.std.specs.declared.cmp.Ordering.{Ordering}
 use Rattle.std.specs.Ordering.{nat_cmp, on, then_cmp}
 use Rattle.std.specs.Map.{lookup, remove_entry, set_value}
@@ -20,13 +20,14 @@ use Rattle.rl_value.specs.Outcome.{map_ok}
 use Rattle.redo_vec.specs.declared.table.TableRow.{TableRow}
 use Rattle.redo_vec.specs.declared.vector.Vector.{Vector}
 use Rattle.redo_vec.specs.declared.vector.Vector.TheVariants.{Start, Change as OfChange, Undo, Commit, Rollback, Table, DictEnd}
-use Rattle.redo_spec.specs.Tables.{Tables, row_count, definitions_of}
+use Rattle.redo_spec.specs.Tables.{Tables, RowsById, assembled, row_count, definitions_of}
 use Rattle.redo_spec.specs.History.{Entry, Placed}
 use Rattle.redo_spec.specs.Standing.{Standing, record_after}
 use Rattle.redo_spec.specs.Survivors.{after_change, after_undo}
 use Rattle.redo_spec.specs.Law.{record_fault, dictionary_left}
 use Rattle.redo_spec.specs.Skips.{Skip, is_skipped}
-use Rattle.redo_spec.specs.Fold.{Folded, Missed, effects, stop_of, known_tables, named_by}
+use Rattle.redo_spec.specs.Fold.{Folded, Missed, effects, stop_of, named_by}
+use Rattle.row_apply.specs.Soundness.{AreSound}
 
 -- transaction ids in order
 abbrev pub xid_cmp : Xid → Xid → Ordering
@@ -51,6 +52,15 @@ abbrev pub rechanged : Xid → (List Placed → List Placed) → OpenChanges →
 rechanged x f live None = live
 rechanged x f live (Some ps) = set_value (is_at (xid_cmp x)) live (f ps)
 
+-- the tables of these rows, where the dictionary is whole, and else none
+abbrev pub tables_shown : Bool → List TableRow → RowsById → Tables
+tables_shown whole tables rows = if whole then assembled tables rows else []
+
+-- the rows that wait for a dictionary: all, until it is whole
+abbrev pub waiting_until : Bool → RowsById → RowsById
+waiting_until true rows = []
+waiting_until false rows = rows
+
 -- a fold that goes on
 pub record Ahead : Type 0 where
   pub standing : Standing
@@ -58,6 +68,7 @@ pub record Ahead : Type 0 where
   pub made : ℕ
   pub n : ℕ
   pub scn : ℕ
+  pub waiting : RowsById
   pub tables : Tables
 
 -- a fold that goes on, or one that has ended
@@ -141,17 +152,28 @@ abbrev pub after_vectors : List Skip → ℕ → ℕ → ℕ → List Vector →
 after_vectors skips scn rec vec [] p = p
 after_vectors skips scn rec vec (v ∷ vs) p = after_vectors skips scn rec (vec + 1) vs (after_vector skips scn (record { rec = rec; vec = vec }) v p)
 
--- the tables are known with the end of the dictionary, and have no rows then
-abbrev pub tables_then : Bool → Tables → Standing → Tables
-tables_then true tables s = tables
-tables_then false tables s = known_tables s
+-- the tables are known with the end of the dictionary, and have the rows then that waited for it
+abbrev pub tables_then : Bool → RowsById → Tables → Standing → Tables
+tables_then true rows tables s = tables
+tables_then false rows tables s = tables_shown s.dictionary.finished s.dictionary.tables rows
 
 -- as an admitted record begins
 abbrev pub entered : Entry → Ahead → Ahead
 entered e a = record a {
   standing = record_after e a.standing;
-  tables = tables_then a.standing.dictionary.finished a.tables (record_after e a.standing);
+  waiting = waiting_until (record_after e a.standing).dictionary.finished a.waiting;
+  tables = tables_then a.standing.dictionary.finished a.waiting a.tables (record_after e a.standing);
 }
+
+-- the rows that wait are sound tables, where the dictionary ends with this record
+abbrev pub RowsAreSound : Entry → Progress → Type 0
+RowsAreSound e (Going a) = record_fault a.standing e ≡ None → a.standing.dictionary.finished ≡ false → AreSound (tables_then false a.waiting a.tables (record_after e a.standing))
+RowsAreSound e (Ended f) = ⊤
+
+-- no rows wait
+abbrev pub NoneWait : Progress → Type 0
+NoneWait (Going a) = a.waiting ≡ []
+NoneWait (Ended f) = ⊤
 
 -- after a record that is admitted, or is bad; the dictionary that a bad one leaves names its table
 abbrev pub judged : Option LawFault → List Skip → Entry → Ahead → Progress

@@ -13,8 +13,7 @@ use Rattle.redo_spec.specs.Tables.{Tables, RowsById}
 use Rattle.redo_spec.specs.Fold.{Missed}
 use Rattle.redo_spec.specs.Tables.{assembled, row_count}
 use Rattle.row_apply.specs.Soundness.{AreSound}
-use Rattle.primary.specs.Progress.{OpenChanges, changes_of, xid_cmp, Ahead, Progress, Going, Ended, held_at}
-use Rattle.primary.specs.Starts.{tables_shown}
+use Rattle.primary.specs.Progress.{OpenChanges, changes_of, xid_cmp, tables_shown, waiting_until, Ahead, Progress, Going, Ended, held_at}
 use Rattle.primary.specs.Unique.{IsIndexed}
 use Rattle.primary.specs.declared.running.Running.{Running}
 use Rattle.primary.specs.declared.unique_index.UniqueIndex.{UniqueIndex}
@@ -49,7 +48,7 @@ tables_of r = tables_shown r.whole r.law.dictionary.tables r.tables
 
 -- what it is seen as
 abbrev pub ahead_of : Running → Ahead
-ahead_of r = record { standing = r.law; live = r.live; made = r.made; n = r.n; scn = r.scn; tables = tables_of r }
+ahead_of r = record { standing = r.law; live = r.live; made = r.made; n = r.n; scn = r.scn; waiting = waiting_until r.whole r.tables; tables = tables_of r }
 
 -- and where it ends, if it does
 abbrev pub progress_of : Option Verdict → Running → Progress
@@ -69,8 +68,7 @@ pub record IsRunning (r : Running) : Type 0 where
   pub whole : r.whole ≡ r.law.dictionary.finished
   pub rec : r.rec ≡ r.law.rec
   pub sound : AreSound (tables_of r)
-  pub kept : IsKept r
-  pub none : r.whole ≡ false → r.tables ≡ []
+  pub kept : r.whole ≡ true → IsKept r
 
 -- a COMMIT of these changes may come: the dictionary is whole and accepts them
 pub record MayCommit (r : Running) (ps : List Placed) : Type 0 where

@@ -1,9 +1,7 @@
 -- Where a plain fold begins, and what it gives: `folded` of redo_spec, over the tables that the rows show there.
-use Rattle.std.specs.Prelude.{◌≡◌, ℕ, ◌≤◌, List, [], true, false, Bool, if◌then◌else◌, None}
+use Rattle.std.specs.Prelude.{ℕ, ◌≤◌, List, [], None}
 use Rattle.rl_value.specs.declared.verdict.Stop.{Stop}
-use Rattle.redo_vec.specs.declared.table.TableRow.{TableRow}
 use Rattle.redo_spec.specs.Dictionary.{no_dictionary}
-use Rattle.redo_spec.specs.Tables.{RowsById, Tables, assembled}
 use Rattle.redo_spec.specs.History.{Entry, no_history}
 use Rattle.redo_spec.specs.Standing.{Standing}
 use Rattle.redo_spec.specs.Law.{Admitted, admission}
@@ -13,11 +11,7 @@ use Rattle.redo_law.specs.Calls.{standing_of}
 use Rattle.row_apply.specs.Soundness.{AreSound}
 use Rattle.primary.specs.declared.plain.Plain.{Plain}
 use Rattle.primary.specs.declared.plain.Folded.{Folded as Plainly}
-use Rattle.primary.specs.Progress.{Progress, Ahead, Going, after_records}
-
--- the tables of these rows, where the dictionary is whole, and else none
-abbrev pub tables_shown : Bool → List TableRow → RowsById → Tables
-tables_shown whole tables rows = if whole then assembled tables rows else []
+use Rattle.primary.specs.Progress.{tables_shown, waiting_until, Progress, Ahead, Going, after_records}
 
 -- what a plain fold says
 abbrev pub shown : Plainly → Folded
@@ -34,11 +28,10 @@ fold_admitted start skips stop a = named_by a.left.tables (folded (base_of start
 abbrev pub fold_from : Plain → List Skip → List Entry → Stop → Folded
 fold_from start skips entries stop = fold_admitted start skips stop (admission (standing_of start.law) (no_history start.before) entries)
 
--- A fold may begin so: the tables that its rows show are sound, and there are no rows before the dictionary is whole; no
--- more commits stand before than the count has.
-pub record IsStart (start : Plain) : Type 0 where
-  pub sound : start.law.dict.finished ≡ true → AreSound (assembled start.law.dict.tables start.tables)
-  pub none : start.law.dict.finished ≡ false → start.tables ≡ []
+-- These records may be folded from there on: the rows are sound tables of the dictionary that they leave, and no more commits
+-- stand before than the count has.
+pub record IsStart (start : Plain) (entries : List Entry) : Type 0 where
+  pub sound : AreSound (base_of start (admission (standing_of start.law) (no_history start.before) entries).standing).tables
   pub counted : start.before ≤ start.n
 
 -- what a fold goes on with that begins so
@@ -49,6 +42,7 @@ first_ahead start = record {
   made = start.before;
   n = start.n;
   scn = start.scn;
+  waiting = waiting_until start.law.dict.finished start.tables;
   tables = tables_shown start.law.dict.finished start.law.dict.tables start.tables;
 }
 

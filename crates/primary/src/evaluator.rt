@@ -1,16 +1,20 @@
 //! The evaluator, which takes the records of a redo one by one.
-ghost use Rattle.std.specs.Prelude.{◌≡◌, ◌+◌, ◌<◌, ◌≤◌, ◌^◌, IfOk, OnOk};
+ghost use Rattle.std.specs.Prelude.{◌≡◌, ◌+◌, ◌<◌, ◌≤◌, ◌^◌, [], IfOk, OnOk, Err, true};
+ghost use Rattle.redo_spec.specs.Tables.{assembled};
 ghost use Rattle.row_apply.specs.Soundness.{AreSound};
-ghost use Rattle.primary.specs.Progress.{is_going, recs_of, after_record, end_of};
+ghost use Rattle.primary.specs.Running.{AreKept};
+ghost use Rattle.primary.specs.Progress.{is_going, recs_of, RowsAreSound, after_record, end_of};
 ghost use Rattle.primary.specs.Starts.{IsStart, begun, shown};
+ghost use Rattle.primary.specs.declared.fault.TakeFault.TheVariants.{Unsound};
 
-use crate::indexing::index_tables;
+use crate::fault::TakeFault;
+use crate::indexing::{Kept, keep};
 use crate::live_changes::LiveChanges;
 use crate::plain::{Folded, Plain};
 use crate::plain_tables::PlainTables;
 use crate::running::Running;
 use crate::unique_index::UniqueIndex;
-use crate::writing::count_rows;
+use redo_dict::Dict;
 use redo_law::Law;
 use redo_spec::Header;
 use redo_vec::RedoRec;
@@ -41,9 +45,9 @@ impl Model for Evaluator {
 }
 
 impl Evaluator {
-    /// A fold that begins so. Where there is no memory, the start is dropped.
+    /// A fold that begins so: no record is taken yet. Where there is no memory, the start is dropped.
     pub fn new(alloc: Global, start: Plain) -> Result<Evaluator, NoMemory>
-        requires fits { IsStart start }
+        requires fits { IsStart start [] }
         ensures begun { IfOk result (λ fold. fold ≡ begun start) }
     {
         let Plain {
@@ -59,9 +63,7 @@ impl Evaluator {
             Err(_) => return Err(NoMemory),
         };
         let whole = law.dict().finished();
-        let mut index = UniqueIndex::new(alloc);
-        index_tables(&mut index, law.dict().tables(), &tables)?;
-        let count = count_rows(law.dict(), &tables)?;
+        let Kept { index, count } = kept_first(alloc, law.dict(), &tables)?;
         let run = Running {
             alloc,
             law,
@@ -79,14 +81,16 @@ impl Evaluator {
     }
 
     /// Takes the next record of the redo, in a log of this header. It answers whether the fold goes on: it has ended with a
-    /// bad record, a miss or the row limit, and then later records change nothing. After want of memory nothing is said of
-    /// it any more.
+    /// bad record, a miss or the row limit, and then later records change nothing. After a fault nothing is said of it any
+    /// more.
     #[tactic(auto, using(crate::proofs::StepLaws::recs_after))]
-    pub fn take(&mut self, head: &Header, rec: RedoRec, skips: &Skips) -> Result<bool, NoMemory>
+    pub fn take(&mut self, head: &Header, rec: RedoRec, skips: &Skips) -> Result<bool, TakeFault>
         requires few { recs_of self.old + 1 < 2 ^ 64 }
         ensures taken { OnOk result (self.new ≡ after_record skips.now (head.now, rec) self.old) }
         ensures going { IfOk result (λ going. going ≡ is_going self.new) }
         ensures records { OnOk result (recs_of self.new ≤ recs_of self.old + 1) }
+        ensures sound { OnOk result (RowsAreSound (head.now, rec) self.old) }
+        ensures unsound { result ≡ Err Unsound → RowsAreSound (head.now, rec) self.old → ⊥ }
     {
         if self.end.is_some() {
             return Ok(false);
@@ -97,11 +101,11 @@ impl Evaluator {
                 self.end = Some(verdict);
                 Ok(false)
             }
-            Err(NoMemory) => {
+            Err(fault) => {
                 // What is left is of no use, and no later record may come to it. Rows half written are no tables.
                 self.run.tables = PlainTables::new(self.run.alloc);
                 self.end = Some(Verdict::Stopped(Stop::Drained));
-                Err(NoMemory)
+                Err(fault)
             }
         }
     }
@@ -144,5 +148,23 @@ impl Evaluator {
                 end,
             },
         }
+    }
+}
+
+// What is kept beside the rows of a start: nothing yet, where they wait for the dictionary.
+fn kept_first(alloc: Global, dict: &Dict, tables: &PlainTables) -> Result<Kept, NoMemory>
+    requires sound { dict.now.finished ≡ true → AreSound (assembled dict.now.tables tables.now) }
+    ensures kept { IfOk result (λ kept. dict.now.finished ≡ true → AreKept dict.now.tables tables.now kept.index kept.count) }
+{
+    if !dict.finished() {
+        return Ok(Kept {
+            index: UniqueIndex::new(alloc),
+            count: 0,
+        });
+    }
+    match keep(alloc, dict, tables) {
+        Ok(kept) => Ok(kept),
+        Err(TakeFault::Unsound) => unreachable!(),
+        Err(TakeFault::Memory) => Err(NoMemory),
     }
 }

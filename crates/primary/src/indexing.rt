@@ -1,19 +1,27 @@
-//! The index of the rows with which a fold begins.
-ghost use Rattle.std.specs.Prelude.{◌≡◌, ◌==◌, OnOk, false};
+//! What a fold keeps beside the rows with which it begins: the index of their unique values, and how many they are.
+//!
+//! All rows are put into the index first, and then each is looked at in it: where two rows have a value, it leads to one of them.
+ghost use Rattle.std.specs.Prelude.{◌≡◌, ◌==◌, OnOk, IfOk, Err, false};
 ghost use Rattle.rl_value.specs.declared.key.Key.{Key};
 ghost use Rattle.redo_spec.specs.Tables.{assembled, rows_by};
 ghost use Rattle.row_apply.specs.Soundness.{AreSound, AreSoundRows};
 ghost use Rattle.primary.specs.Unique.{lead_of, LeadsToRows, IsIndexed};
+ghost use Rattle.primary.specs.Running.{AreKept};
+ghost use Rattle.primary.specs.declared.fault.TakeFault.TheVariants.{Unsound};
 
+use crate::checking::tables_hold;
+use crate::fault::TakeFault;
 use crate::plain_rows::PlainRows;
 use crate::plain_tables::PlainTables;
 use crate::unique_index::UniqueIndex;
+use crate::writing::count_rows;
+use redo_dict::Dict;
 use redo_vec::TableRow;
 use rl_value::NoMemory;
+use std::alloc::Global;
 
 fn index_rows(index: &mut UniqueIndex, table: &TableRow, rows: &PlainRows) -> Result<(), NoMemory>
-    requires sound { AreSoundRows table.now rows.now }
-    ensures indexed { OnOk result (LeadsToRows table.now rows.now index.new) }
+    ensures indexed { OnOk result (AreSoundRows table.now rows.now → LeadsToRows table.now rows.now index.new) }
     ensures others { OnOk result ((q : Key) → (q.table == table.now.id) ≡ false → lead_of index.new q ≡ lead_of index.old q) }
 {
     for (key, row) in rows.iter() {
@@ -27,8 +35,7 @@ fn index_table(
     table: &TableRow,
     tables: &PlainTables,
 ) -> Result<(), NoMemory>
-    requires sound { AreSoundRows table.now (rows_by tables.now table.now.id) }
-    ensures indexed { OnOk result (LeadsToRows table.now (rows_by tables.now table.now.id) index.new) }
+    ensures indexed { OnOk result (AreSoundRows table.now (rows_by tables.now table.now.id) → LeadsToRows table.now (rows_by tables.now table.now.id) index.new) }
     ensures others { OnOk result ((q : Key) → (q.table == table.now.id) ≡ false → lead_of index.new q ≡ lead_of index.old q) }
 {
     match tables.table(table.id) {
@@ -37,18 +44,41 @@ fn index_table(
     }
 }
 
-/// Each unique value of a row of these tables leads to the row's primary key.
-pub fn index_tables(
+// Each unique value of a row of these tables leads to the row's primary key.
+fn index_tables(
     index: &mut UniqueIndex,
     rest: &[TableRow],
     tables: &PlainTables,
 ) -> Result<(), NoMemory>
-    requires sound { AreSound (assembled rest.now tables.now) }
-    ensures indexed { OnOk result (IsIndexed rest.now tables.now index.new) }
+    ensures indexed { OnOk result (AreSound (assembled rest.now tables.now) → IsIndexed rest.now tables.now index.new) }
 {
     let [table, others @ ..] = rest else {
         return Ok(());
     };
     index_tables(index, others, tables)?;
     index_table(index, table, tables)
+}
+
+/// What is kept beside rows.
+#[derive(Drop)]
+pub struct Kept {
+    /// Which row has a unique value.
+    pub index: UniqueIndex,
+    /// How many rows there are.
+    pub count: u64,
+}
+
+/// What is kept beside these rows, which have to be sound tables of the dictionary.
+pub fn keep(alloc: Global, dict: &Dict, tables: &PlainTables) -> Result<Kept, TakeFault>
+    ensures kept { IfOk result (λ kept. AreKept dict.now.tables tables.now kept.index kept.count) }
+    ensures sound { OnOk result (AreSound (assembled dict.now.tables tables.now)) }
+    ensures unsound { result ≡ Err Unsound → AreSound (assembled dict.now.tables tables.now) → ⊥ }
+{
+    let mut index = UniqueIndex::new(alloc);
+    index_tables(&mut index, dict.tables(), tables)?;
+    if !tables_hold(dict, tables, &index)? {
+        return Err(TakeFault::Unsound);
+    }
+    let count = count_rows(dict, tables)?;
+    Ok(Kept { index, count })
 }

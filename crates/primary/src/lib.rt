@@ -3,8 +3,10 @@
 #![tactic(auto)]
 
 mod based;
+mod checking;
 mod effects;
 mod evaluator;
+mod fault;
 mod indexing;
 pub mod laws;
 mod live_changes;
@@ -20,6 +22,7 @@ mod unique_values;
 mod writing;
 
 pub use evaluator::Evaluator;
+pub use fault::TakeFault;
 pub use plain::{Folded, Plain};
 pub use plain_fold::fold_plain;
 pub use plain_tables::{PlainList, PlainTables};

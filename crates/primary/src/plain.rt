@@ -1,5 +1,6 @@
 //! Where a plain fold begins, and what it gives.
-ghost use Rattle.std.specs.Prelude.{◌≡◌, IfOk};
+ghost use Rattle.std.specs.Prelude.{◌≡◌, List, [], IfOk};
+ghost use Rattle.redo_spec.specs.History.{Entry};
 ghost use Rattle.primary.specs.Starts.{IsStart, first_start};
 
 use crate::plain_tables::PlainTables;
@@ -19,7 +20,7 @@ pub struct Plain {
     pub n: u64,
     /// The SCN of the last commit that the tables have.
     pub scn: Scn,
-    /// The rows after that commit.
+    /// The rows after that commit. Until the dictionary is whole they wait for it.
     pub tables: PlainTables,
 }
 
@@ -28,7 +29,15 @@ impl Plain {
     /// SCN. It takes no memory yet.
     pub fn first(alloc: Global, first: u32, base: Scn) -> Plain
         ensures value { result ≡ first_start first base }
-        ensures fits { IsStart result }
+        ensures fits { (entries : List Entry) → IsStart result entries }
+    {
+        Plain::over(alloc, first, base, PlainTables::new(alloc))
+    }
+
+    /// The start before the first record of a redo, over rows that wait for its dictionary. It takes no memory yet.
+    pub fn over(alloc: Global, first: u32, base: Scn, tables: PlainTables) -> Plain
+        ensures value { result ≡ record (first_start first base) { tables = tables } }
+        ensures fits { IsStart result [] }
     {
         Plain {
             law: LawStart {
@@ -44,7 +53,7 @@ impl Plain {
             before: 0,
             n: 0,
             scn: base,
-            tables: PlainTables::new(alloc),
+            tables,
         }
     }
 
@@ -73,7 +82,7 @@ pub struct Folded {
     pub tables: PlainTables,
     /// The dictionary that the records leave; its tables name those of the end.
     pub dict: Dict,
-    /// The dictionary was whole before the end, so that the rows are its tables. Else no table is shown, and there is no row.
+    /// The dictionary was whole before the end, so that the rows are its tables. Else no table is shown, and the rows are those that waited.
     pub whole: bool,
     /// Why the fold goes no further.
     pub end: Verdict,

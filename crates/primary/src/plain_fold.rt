@@ -5,6 +5,7 @@ ghost use Rattle.row_apply.specs.Soundness.{AreSound};
 ghost use Rattle.primary.specs.Starts.{IsStart, fold_from, shown};
 
 use crate::evaluator::Evaluator;
+use crate::fault::TakeFault;
 use crate::laws::the_evaluator_folds;
 use crate::plain::{Folded, Plain};
 use redo_spec::Header;
@@ -20,14 +21,18 @@ pub fn fold_plain(
     recs: &[(Header, RedoRec)],
     skips: &Skips,
 ) -> Result<Folded, NoMemory>
-    requires fits { IsStart start }
+    requires fits { IsStart start recs.now }
     requires few { start.law.rec + length recs.now < 2 ^ 64 }
     ensures folded { IfOk result (λ folded. shown folded ≡ fold_from start skips.now recs.now Drained) }
     ensures sound { IfOk result (λ folded. AreSound (shown folded).tables) }
 {
     let mut fold = Evaluator::new(alloc, start)?;
     for (head, rec) in recs {
-        let _ = fold.take(head, rec.copy()?, skips)?;
+        match fold.take(head, rec.copy()?, skips) {
+            Ok(_) => {}
+            Err(TakeFault::Unsound) => unreachable!(),
+            Err(TakeFault::Memory) => return Err(NoMemory),
+        }
     }
     let folded = fold.finish(Stop::Drained);
     the_evaluator_folds();

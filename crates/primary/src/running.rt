@@ -1,6 +1,8 @@
 //! A fold that goes on: what it keeps between two records, and the step over one.
 use crate::based::Based;
 use crate::effects::{EffectsFault, effects_of};
+use crate::fault::TakeFault;
+use crate::indexing::{Kept, keep};
 use crate::live_changes::{LiveChanges, Survivors};
 use crate::plain_tables::PlainTables;
 use crate::unique_index::UniqueIndex;
@@ -26,9 +28,9 @@ pub struct Running {
     pub n: u64,
     pub scn: Scn,
     pub tables: PlainTables,
-    /// Which row has a unique value.
+    /// Which row has a unique value, once the dictionary is whole.
     pub index: UniqueIndex,
-    /// How many rows there are.
+    /// How many rows there are then.
     pub count: u64,
     /// The dictionary is whole, as of the last admitted record; a refused one may have ended it in law, and then no table is
     /// shown.
@@ -36,14 +38,15 @@ pub struct Running {
 }
 
 impl Running {
-    ghost use Rattle.std.specs.Prelude.{◌≡◌, ◌+◌, ◌<◌, ◌^◌, [], None, Ok, true, false, IfOk, IfErr, IfSome, IsTrue};
+    ghost use Rattle.std.specs.Prelude.{◌≡◌, ◌+◌, ◌<◌, ◌^◌, [], None, Ok, Err, true, false, IfOk, IfErr, IfSome, OnOk, IsTrue};
     ghost use Rattle.redo_spec.specs.Tables.{assembled};
     ghost use Rattle.redo_spec.specs.Fold.{effects};
     ghost use Rattle.row_apply.specs.Overlaid.{overlaid, are_of};
     ghost use Rattle.row_apply.specs.Soundness.{AreSound};
-    ghost use Rattle.primary.specs.Progress.{committed, kept_of, with_commit, after_record, Going};
+    ghost use Rattle.primary.specs.Progress.{committed, kept_of, with_commit, tables_shown, RowsAreSound, after_record, Going};
     ghost use Rattle.primary.specs.Running.{AreAccepted, TellsMiss, ahead_of, progress_of, tables_of, IsKept, IsRunning, MayCommit};
     ghost use Rattle.primary.specs.Unique.{IsIndexed};
+    ghost use Rattle.primary.specs.declared.fault.TakeFault.TheVariants.{Unsound};
 
     // What the changes of the next commit write that are not passed over.
     fn writes_of(&self, skips: &Skips, changes: &[(Pos, Change)]) -> Result<Writes, EffectsFault>
@@ -128,12 +131,10 @@ impl Running {
     ) -> Result<Option<Verdict>, NoMemory>
         requires may { IfSome commit (λ ps. MayCommit self.old ps) }
         requires sound { AreSound (tables_of self.old) }
-        requires kept { IsKept self.old }
-        requires none { self.old.whole ≡ false → self.old.tables ≡ [] }
+        requires kept { self.old.whole ≡ true → IsKept self.old }
         ensures taken { IfOk result (λ end. progress_of end self.new ≡ with_commit skips.now scn commit (ahead_of self.old)) }
         ensures sound { IfOk result (λ end. AreSound (tables_of self.new)) }
-        ensures kept { IfOk result (λ end. IsKept self.new) }
-        ensures none { IfOk result (λ end. self.new.whole ≡ false → self.new.tables ≡ []) }
+        ensures kept { IfOk result (λ end. self.new.whole ≡ true → IsKept self.new) }
         ensures law { IfOk result (λ end. self.new.law ≡ self.old.law) }
         ensures live { IfOk result (λ end. self.new.live ≡ self.old.live) }
         ensures rec { IfOk result (λ end. self.new.rec ≡ self.old.rec) }
@@ -145,22 +146,45 @@ impl Running {
         }
     }
 
+    // As an admitted record begins. Where the dictionary has ended with it, the rows that waited are its tables.
+    fn enter(&mut self) -> Result<(), TakeFault>
+        requires still { self.old.whole ≡ true → self.old.law.dictionary.finished ≡ true }
+        requires sound { self.old.whole ≡ true → AreSound (assembled self.old.law.dictionary.tables self.old.tables) }
+        requires kept { self.old.whole ≡ true → IsKept self.old }
+        ensures only { OnOk result (self.new ≡ record self.old { whole = self.old.law.dictionary.finished; index = self.new.index; count = self.new.count }) }
+        ensures sound { OnOk result (AreSound (tables_of self.new)) }
+        ensures kept { OnOk result (self.new.whole ≡ true → IsKept self.new) }
+        ensures waited { result ≡ Err Unsound → self.old.whole ≡ false }
+        ensures unsound { result ≡ Err Unsound → AreSound (tables_shown self.old.law.dictionary.finished self.old.law.dictionary.tables self.old.tables) → ⊥ }
+    {
+        if self.whole || !self.law.dict().finished() {
+            return Ok(());
+        }
+        let Kept { index, count } = keep(self.alloc, self.law.dict(), &self.tables)?;
+        self.index = index;
+        self.count = count;
+        self.whole = true;
+        Ok(())
+    }
+
     /// The step over the next record. It answers why the fold ends with it, if it does.
     pub fn step(
         &mut self,
         head: &Header,
         rec: RedoRec,
         skips: &Skips,
-    ) -> Result<Option<Verdict>, NoMemory>
+    ) -> Result<Option<Verdict>, TakeFault>
         requires running { IsRunning self.old }
         requires room { self.old.law.rec + 1 < 2 ^ 64 }
         ensures running { IfOk result (λ end. end ≡ None → IsRunning self.new) }
         ensures sound { IfOk result (λ end. AreSound (tables_of self.new)) }
         ensures taken { IfOk result (λ end. progress_of end self.new ≡ after_record skips.now (head.now, rec) (Going (ahead_of self.old))) }
+        ensures rows { OnOk result (RowsAreSound (head.now, rec) (Going (ahead_of self.old))) }
+        ensures unsound { result ≡ Err Unsound → RowsAreSound (head.now, rec) (Going (ahead_of self.old)) → ⊥ }
     {
         match self.law.admit(head, &rec) {
             Ok(()) => {}
-            Err(AdmitFault::Memory) => return Err(NoMemory),
+            Err(AdmitFault::Memory) => return Err(TakeFault::Memory),
             Err(AdmitFault::Law(fault)) => {
                 return Ok(Some(Verdict::Stopped(Stop::Malformed {
                     rec: self.rec + 1,
@@ -169,7 +193,10 @@ impl Running {
             }
         }
         self.rec += 1;
-        self.whole = self.law.dict().finished();
+        match self.enter() {
+            Ok(()) => {}
+            Err(fault) => return Err(fault),
+        }
         let scn = rec.scn;
         let mut vec: u16 = 1;
         for vector in rec.vectors.into_items() {

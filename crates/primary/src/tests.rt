@@ -3,13 +3,13 @@ ghost use Rattle.std.specs.Prelude.{◌≡◌, IsTrue, IfOk};
 ghost use Rattle.redo_vec.specs.declared.columns.Kind.TheVariants.{Number};
 ghost use Rattle.redo_vec.specs.Forms.{is_line30};
 
-use crate::{Evaluator, Folded, Plain, fold_plain};
+use crate::{Evaluator, Folded, Plain, PlainTables, TakeFault, fold_plain};
 use redo_spec::Header;
 use redo_vec::{
     Change, Column, Columns, KeyColumns, KeyLists, Kind, Line30, Op, RedoRec, TableRow, Vector,
     Vectors,
 };
-use rl_value::{Cells, Miss, Stop, Value, Verdict, Xid};
+use rl_value::{Cells, Miss, Row, Stop, Value, Verdict, Xid};
 use skip_guard::{SkipEntry, SkipRule, Skips};
 use std::alloc::Global;
 use std::test::Fail;
@@ -353,6 +353,107 @@ fn a_unique_value_has_the_owner_that_it_has_now(rt: HostRuntime) -> Result<(), F
         let recs = coded_redo(alloc, count, code)?;
         let shown = folded(alloc, recs.as_slice())?;
         assert_eq!(rt; owner_told(&shown.end), owner, "{code} after {count}");
+    }
+    Ok(())
+}
+
+/// A row of table 1, under this key.
+#[derive(Clone, Copy)]
+struct Loaded {
+    key: i64,
+    id: i64,
+    code: Option<i64>,
+}
+
+const LOADED: Loaded = Loaded {
+    key: 1,
+    id: 1,
+    code: Some(7),
+};
+
+fn row(alloc: Global, id: i64, code: Option<i64>) -> Result<Row, Fail> {
+    match code {
+        None => Ok(Row::of(vec![in alloc; Value::Number(id)]?)),
+        Some(code) => Ok(Row::of(vec![in alloc; Value::Number(id), Value::Number(code)]?)),
+    }
+}
+
+// A fold over the row 5 of table 2, and over these rows.
+fn over_rows(alloc: Global, rows: &[Loaded]) -> Result<Evaluator, Fail> {
+    let mut tables = PlainTables::new(alloc);
+    tables.put(2, row(alloc, 5, None)?, row(alloc, 5, None)?)?;
+    for loaded in rows {
+        let key = row(alloc, loaded.key, None)?;
+        tables.put(1, key, row(alloc, loaded.id, loaded.code)?)?;
+    }
+    Ok(Evaluator::new(alloc, Plain::over(alloc, 1, 99, tables))?)
+}
+
+// T.B is table 1, and T.A table 2.
+fn two_tables(alloc: Global) -> Result<RedoRec, Fail> {
+    let mut other = table(alloc)?;
+    other.id = 2;
+    let tables = two(
+        alloc,
+        100,
+        Vector::Table(coded_table(alloc)?),
+        Vector::Table(other),
+    )?;
+    Ok(tables.1)
+}
+
+#[test]
+fn rows_wait_for_the_dictionary(rt: HostRuntime) -> Result<(), Fail> {
+    let alloc = rt.alloc();
+    let skips = Skips::new(alloc);
+    let mut fold = over_rows(alloc, &[LOADED])?;
+    assert_eq!(rt; fold.take(&HEAD, two_tables(alloc)?, &skips)?, true);
+    let end = one(alloc, 100, Vector::DictEnd)?;
+    assert_eq!(rt; fold.take(&HEAD, end.1, &skips)?, true);
+    let mut recs = Vec::new(alloc);
+    transaction(alloc, &mut recs, CODED[1])?;
+    for (head, rec) in recs {
+        assert_eq!(rt; fold.take(&head, rec, &skips)?, true);
+    }
+    let shown = fold.finish(Stop::Drained);
+    assert_eq!(rt; shown.n, 1);
+    assert_eq!(rt; shown.tables.count(1), 1);
+    assert_eq!(rt; shown.tables.count(2), 1);
+    let Some(found) = shown.tables.rows(1).next() else {
+        assert_eq!(rt; true, false, "a row");
+        return Ok(());
+    };
+    let wanted = [Value::Number(1), Value::Number(8)];
+    let same = found.values() == wanted.as_slice();
+    assert_eq!(rt; same, true);
+    Ok(())
+}
+
+// Whether a fold goes on that finds this row beside the one of ID 1, when the dictionary ends.
+fn goes_on_over(alloc: Global, loaded: Loaded) -> Result<bool, Fail> {
+    let skips = Skips::new(alloc);
+    let mut fold = over_rows(alloc, &[LOADED, loaded])?;
+    let _ = fold.take(&HEAD, two_tables(alloc)?, &skips)?;
+    let end = one(alloc, 100, Vector::DictEnd)?;
+    match fold.take(&HEAD, end.1, &skips) {
+        Ok(going) => Ok(going),
+        Err(TakeFault::Unsound) => Ok(false),
+        Err(TakeFault::Memory) => Err(Fail::new("no memory")),
+    }
+}
+
+#[test]
+fn rows_that_are_no_sound_tables_are_told(rt: HostRuntime) -> Result<(), Fail> {
+    let alloc = rt.alloc();
+    let cases = [
+        ("another code", 2, Some(8), true),
+        ("the same code", 2, Some(7), false),
+        ("another key", 3, Some(8), false),
+        ("no code", 2, None, false),
+    ];
+    for (name, key, code, goes_on) in cases {
+        let loaded = Loaded { key, id: 2, code };
+        assert_eq!(rt; goes_on_over(alloc, loaded)?, goes_on, "{name}");
     }
     Ok(())
 }

@@ -2,7 +2,7 @@
 //!
 //! Each unique value of a row leads to the row's primary key. A write takes away what led to the row that stood there, so
 //! no more values are kept than rows have; still, what the index answers is looked at again in the rows.
-ghost use Rattle.std.specs.Prelude.{◌≡◌, ◌==◌, OnOk, None, cond, true, false};
+ghost use Rattle.std.specs.Prelude.{◌≡◌, ◌==◌, OnOk, IfOk, None, cond, true, false};
 ghost use Rattle.std.specs.BTreeMap as tree;
 ghost use Rattle.std.specs.Option.{option_copied};
 ghost use Rattle.rl_value.specs.Order.{key_cmp};
@@ -25,7 +25,9 @@ pub struct UniqueIndex {
 
 impl UniqueIndex {
     ghost use Rattle.redo_spec.specs.Tables.{Rows};
+    ghost use Rattle.redo_spec.specs.Dictionary.{uniques_of};
     ghost use Rattle.primary.specs.Unique.{lead_of, has_unique, slot_has, rewritten, LeadsToRows};
+    ghost use Rattle.primary.specs.Checked.{value_leads, leads_from};
     ghost use Rattle.row_apply.specs.Soundness.{AreSoundRows};
 
     /// No value. It takes no memory yet.
@@ -43,6 +45,32 @@ impl UniqueIndex {
         ensures { option_copied result ≡ lead_of self.now unique.now }
     {
         self.owners.get(unique)
+    }
+
+    fn leads(&self, unique: &Option<Key>, key: &Row) -> bool
+        ensures { result ≡ value_leads self.now key.now unique.now }
+    {
+        match unique {
+            None => true,
+            Some(unique) => leads_to(self.lead(unique), key),
+        }
+    }
+
+    /// Each unique value of the row leads to this primary key.
+    pub fn leads_all(&self, table: &TableRow, key: &Row, row: &Row) -> Result<bool, NoMemory>
+        ensures { IfOk result (λ all. all ≡ leads_from self.now table.now.id 1 (uniques_of table.now) key.now row.now) }
+    {
+        let mut rest = unique_keys(table);
+        let mut number: u8 = 1;
+        while let [columns, others @ ..] = rest {
+            let unique = unique_value(self.alloc, table.id, number, columns, row)?;
+            if !self.leads(&unique, key) {
+                return Ok(false);
+            }
+            rest = others;
+            number += 1;
+        }
+        Ok(true)
     }
 
     /// From now on each unique value of the row leads to this primary key.

@@ -10,7 +10,8 @@ use Rattle.std.proofs.lemmas.List.{append_assoc}
 use Rattle.redo_spec.specs.Lines.{words, written, table_lines, fold_lines, end_line, verdict_text}
 use Rattle.rl_value.specs.Literal.{row_text}
 use Rattle.primary.specs.declared.plain.Folded.{Folded as Plainly}
-use Rattle.primary.specs.Starts.{shown, tables_shown}
+use Rattle.primary.specs.Progress.{tables_shown}
+use Rattle.primary.specs.Starts.{shown}
 use Rattle.standby.specs.Printing.{spaced, end_words, with_end, row_line, rows_text, table_line, table_text, definitions_shown, applied_text, end_text}
 
 -- a first word, and each later one with a space before it

@@ -1,5 +1,5 @@
 -- The fold of one log: what a look at it tells, what the reading side then gives, and what the evaluator makes of it.
-use Rattle.std.proofs.Common.{◌≡◌, ℕ, ◌-◌, List, [], ◌∷◌, length, refl, ap, sym, subst, ◌∙◌, arith, Bool, true, false, ◌==◌, nat_lt, nat_le, Option, Some, None, Result, Ok, Err, IfOk}
+use Rattle.std.proofs.Common.{◌≡◌, ℕ, ◌-◌, ◌≤◌, List, [], ◌∷◌, length, refl, ap, sym, subst, ◌∙◌, arith, Bool, true, false, ◌==◌, nat_lt, nat_le, Option, Some, None, Result, Ok, Err, IfOk}
 use Rattle.std.specs.Prelude.{if◌then◌else◌}
 use Rattle.std.proofs.lemmas.Bool.Decides.{nat_tests}
 use Rattle.rl_value.specs.declared.cause.HeadFault.{HeadFault}
@@ -21,7 +21,7 @@ use Rattle.redo_reader.specs.Reading.{clamped_place, done_within}
 use Rattle.primary.specs.declared.plain.Plain.{Plain}
 use Rattle.primary.specs.declared.plain.Folded.{Folded as Plainly}
 use Rattle.primary.specs.Progress.{Progress, after_records, end_of}
-use Rattle.primary.specs.Starts.{IsStart, after, fold_from, first_start, shown}
+use Rattle.primary.specs.Starts.{after, fold_from, first_start, shown}
 use Rattle.standby.specs.declared.reading.FoldFault.{FoldFault}
 use Rattle.standby.specs.Folding.{come, EndsAs, IsFoldRefused}
 
@@ -35,18 +35,18 @@ taken redo p = after_records [] redo.entries p
 
 -- the evaluator's laws
 abbrev pub Folds : Type 0
-Folds = (start : Plain) (skips : List Skip) (entries : List Entry) (stop : Stop) → IsStart start → end_of stop (after start skips entries) ≡ fold_from start skips entries stop
+Folds = (start : Plain) (skips : List Skip) (entries : List Entry) (stop : Stop) → start.before ≤ start.n → end_of stop (after start skips entries) ≡ fold_from start skips entries stop
 
 abbrev pub FoldsFirst : Type 0
 FoldsFirst = (first base : ℕ) (entries : List Entry) (stop : Stop) → fold_from (first_start first base) [] entries stop ≡ fold_of_redo first base entries stop
 
 fold-of_ends : Folds → FoldsFirst → (seq base : ℕ) (redo : Redo) (old new : Progress) (stop : Stop) (f : Folded) →
-    old ≡ come seq base [] → IsStart (first_start seq base) → EndsAs redo old new stop → f ≡ end_of stop new → f ≡ fold_of_redo seq base redo.entries redo.stop
-fold-of_ends folds folds_first seq base redo old new stop f begun fits ends last =
+    old ≡ come seq base [] → EndsAs redo old new stop → f ≡ end_of stop new → f ≡ fold_of_redo seq base redo.entries redo.stop
+fold-of_ends folds folds_first seq base redo old new stop f begun ends last =
     last
     ∙ ends
     ∙ ap (λ (p : Progress). end_of redo.stop (taken redo p)) begun
-    ∙ folds (first_start seq base) [] redo.entries redo.stop fits
+    ∙ folds (first_start seq base) [] redo.entries redo.stop (omega arith)
     ∙ folds_first seq base redo.entries redo.stop
 
 abbrev EndsWhereTold : Logs → List LogEntry → Place → Progress → Progress → Stop → Type 0
@@ -54,11 +54,11 @@ EndsWhereTold known registry place old new stop = Told known (λ logs. AreOf log
 
 -- what was handed to the evaluator is folded, where the archive tells its logs
 pub fold-where_told : Folds → FoldsFirst → (known : Logs) (registry : List LogEntry) (place : Place) (seq base : ℕ) (old new : Progress) (stop : Stop) (f : Folded) →
-    old ≡ come seq base [] → IsStart (first_start seq base) → EndsWhereTold known registry place old new stop → f ≡ end_of stop new →
+    old ≡ come seq base [] → EndsWhereTold known registry place old new stop → f ≡ end_of stop new →
     Told known (λ logs. AreOf logs registry → f ≡ (let redo = redo_ahead logs registry place in fold_of_redo seq base redo.entries redo.stop))
-fold-where_told folds folds_first None registry place seq base old new stop f begun fits ends last = tt
-fold-where_told folds folds_first (Some logs) registry place seq base old new stop f begun fits ends last =
-    λ are. fold-of_ends folds folds_first seq base (redo_ahead logs registry place) old new stop f begun fits (ends are) last
+fold-where_told folds folds_first None registry place seq base old new stop f begun ends last = tt
+fold-where_told folds folds_first (Some logs) registry place seq base old new stop f begun ends last =
+    λ are. fold-of_ends folds folds_first seq base (redo_ahead logs registry place) old new stop f begun (ends are) last
 
 -- ---- the reading side, before the first record of the only log
 

@@ -11,7 +11,8 @@ ghost use Rattle.rl_value.specs.declared.verdict.Stop.TheVariants.{Malformed};
 ghost use Rattle.log_registry.specs.Registered.{IsOf, AreOf, looked};
 ghost use Rattle.log_registry.specs.declared.fault.RegFault.TheVariants.{ArchiveFault as ArchiveFaulted};
 ghost use Rattle.redo_reader.specs.Ahead.{redo_ahead};
-ghost use Rattle.primary.specs.Starts.{IsStart, first_start, shown};
+ghost use Rattle.primary.specs.Progress.{NoneWait};
+ghost use Rattle.primary.specs.Starts.{shown};
 ghost use Rattle.standby.specs.Folding.{come, IsFoldRefused};
 ghost use Rattle.standby.specs.declared.reading.FoldFault.TheVariants.{Failed as FoldFailed};
 
@@ -38,7 +39,7 @@ pub struct FoldedLog<A: Archive> {
 // An evaluator before the first record of a redo over empty tables.
 fn first_evaluator(alloc: Global, first: u32, base: Scn) -> Result<Evaluator, NoMemory>
     ensures begun { IfOk result (λ evaluator. evaluator ≡ come first base []) }
-    ensures fits { IsStart (first_start first base) }
+    ensures none { IfOk result NoneWait }
 {
     Evaluator::new(alloc, Plain::first(alloc, first, base))
 }

@@ -8,11 +8,12 @@ ghost use Rattle.rl_ports.specs.Faults.{Told, Rose};
 ghost use Rattle.redo_vec.specs.Cutting.{first_record};
 ghost use Rattle.log_registry.specs.Registered.{AreOf};
 ghost use Rattle.redo_reader.specs.Ahead.{redo_ahead};
-ghost use Rattle.primary.specs.Progress.{recs_of};
+ghost use Rattle.primary.specs.Progress.{recs_of, NoneWait};
 ghost use Rattle.standby.specs.Folding.{Takes, Steps, EndsAs, stop_behind};
 ghost use Rattle.standby.specs.declared.reading.FoldFault.TheVariants.{Failed as FoldFailed};
 
-use primary::Evaluator;
+use primary::laws::no_rows_are_sound;
+use primary::{Evaluator, TakeFault};
 use redo_reader::{Cut, CutError, ReadSide};
 use redo_vec::{DecodeFault, decode_record};
 use redo_wire::Raw;
@@ -70,16 +71,19 @@ pub enum Took {
 fn take_raw(alloc: Global, evaluator: &mut Evaluator, raw: &Raw) -> Result<Took, NoMemory>
     requires whole { first_record raw.now.bytes ≡ Ok (raw.now.bytes, []) }
     requires numbered { recs_of evaluator.old + 1 < 2 ^ 64 }
+    requires none { NoneWait evaluator.old }
     ensures taken { IfOk result (λ took. Takes raw.now evaluator.old evaluator.new took) }
     ensures number { OnOk result (recs_of evaluator.new ≤ recs_of evaluator.old + 1) }
+    ensures none { OnOk result (NoneWait evaluator.new) }
 {
+    no_rows_are_sound();
     match decode_record(alloc, raw.bytes.bytes()) {
-        Ok(rec) => {
-            if evaluator.take(&raw.head, rec, &Skips::new(alloc))? {
-                return Ok(Took::On);
-            }
-            Ok(Took::Ended)
-        }
+        Ok(rec) => match evaluator.take(&raw.head, rec, &Skips::new(alloc)) {
+            Ok(true) => Ok(Took::On),
+            Ok(false) => Ok(Took::Ended),
+            Err(TakeFault::Unsound) => unreachable!(),
+            Err(TakeFault::Memory) => Err(NoMemory),
+        },
         Err(DecodeFault::Vector { fault, place }) => {
             Ok(Took::Undecoded(Cause::Vector { fault, place }))
         }
@@ -105,11 +109,13 @@ fn take_next<A: Archive>(
     reader: &mut ReadSide<A>,
 ) -> Result<Option<Stop>, FoldFault>
     requires numbered { recs_of evaluator.old ≤ reader.old.place.rec }
+    requires none { NoneWait evaluator.old }
     requires room { reader.old.place.rec < 2 ^ 63 }
     ensures steps { Told (A.logs reader.old.archive) (λ logs. AreOf logs reader.old.registry →
         IfOk result (Steps (redo_ahead logs reader.old.registry reader.old.place) (redo_ahead logs reader.new.registry reader.new.place) evaluator.old evaluator.new)) }
     ensures on { IfOk result (λ end. end ≡ None → reader.new.place.rec ≡ reader.old.place.rec + 1) }
     ensures numbered { IfOk result (λ end. recs_of evaluator.new ≤ reader.new.place.rec) }
+    ensures none { OnOk result (NoneWait evaluator.new) }
     ensures room { IfOk result (λ end. reader.new.place.rec < 2 ^ 63) }
     ensures registry { reader.new.registry ≡ reader.old.registry }
     ensures logs { A.logs reader.new.archive ≡ A.logs reader.old.archive }
@@ -134,6 +140,7 @@ pub fn take_all<A: Archive>(
     reader: &mut ReadSide<A>,
 ) -> Result<Stop, FoldFault>
     requires numbered { recs_of evaluator.old ≤ reader.old.place.rec }
+    requires none { NoneWait evaluator.old }
     requires room { reader.old.place.rec < 2 ^ 63 }
     ensures ends { Told (A.logs reader.old.archive) (λ logs. AreOf logs reader.old.registry →
         IfOk result (EndsAs (redo_ahead logs reader.old.registry reader.old.place) evaluator.old evaluator.new)) }

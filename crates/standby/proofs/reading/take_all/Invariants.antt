@@ -2,7 +2,7 @@ use Rattle.std.proofs.Common.{◌≡◌, ◌≤◌, ◌<◌, ◌-◌, ◌^◌}
 use Rattle.rl_ports.specs.Faults.{Told}
 use Rattle.log_registry.specs.Registered.{AreOf}
 use Rattle.redo_reader.specs.Ahead.{redo_ahead}
-use Rattle.primary.specs.Progress.{recs_of}
+use Rattle.primary.specs.Progress.{recs_of, NoneWait}
 use Rattle.standby.specs.Folding.{StepsOn}
 use Rattle.standby.proofs.reading.take_all.Given as goal
 
@@ -16,6 +16,7 @@ invariant-loop-stop g l =
       registry : l.reader.registry ≡ l.fn.reader.registry;
       same : logs l.reader.archive ≡ logs l.fn.reader.archive;
       later : faults l.fn.reader.archive ≤ faults l.reader.archive;
+      none : NoneWait l.evaluator;
       numbered : recs_of l.evaluator ≤ l.reader.place.rec;
       room : l.reader.place.rec < 2 ^ 63;
     }

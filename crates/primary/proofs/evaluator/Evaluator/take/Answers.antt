@@ -1,9 +1,8 @@
 use Rattle.std.proofs.Common.{◌≡◌, ◌∙◌, ◌+◌, ◌≤◌, sym, ap, subst, Option, None}
 use Rattle.rl_value.specs.declared.verdict.Verdict.{Verdict}
-use Rattle.primary.specs.Progress.{Progress, Going, after_record, recs_of}
+use Rattle.primary.specs.Progress.{Progress, Going, tables_shown, after_record, recs_of}
 use Rattle.redo_spec.specs.Tables.{RowsById}
 use Rattle.row_apply.specs.Soundness.{AreSound}
-use Rattle.primary.specs.Starts.{tables_shown}
 use Rattle.primary.specs.Running.{ahead_of, progress_of}
 use Rattle.primary.proofs.MapLemmas.{absent}
 use Rattle.primary.proofs.StepLaws.{recs_after, sound_without}

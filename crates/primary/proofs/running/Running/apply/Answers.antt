@@ -5,7 +5,7 @@ use Rattle.redo_spec.specs.Fold.{live_row_limit, effects}
 use Rattle.row_apply.specs.Overlaid.{overlaid}
 use Rattle.primary.specs.Progress.{kept_of}
 use Rattle.primary.specs.Running.{ahead_of}
-use Rattle.primary.proofs.ApplyLaws.{shown_whole, tells, misses, over_limit, goes_on, not_below}
+use Rattle.primary.proofs.ApplyLaws.{shown_whole, none_wait, tells, misses, over_limit, goes_on, not_below}
 use Rattle.primary.proofs.running.Running.apply.Goals as goal
 
 pub returns-in-Err-Missed-clause-taken : goal.returns-in-Err-Missed-clause-taken
@@ -55,7 +55,7 @@ returns-clause-taken c =
     ∙ ap (λ b. cond b (overlaid (assembled c.dict.result.now.tables r.tables) ws) (assembled c.dict.result.now.tables r.tables)) c.if-not-branch.false
     ∙ ap (λ e. overlaid (assembled e.tables r.tables) ws) d in
     let done : effects (assembled ts r.tables) (kept_of c.args.skips.now ts r.n c.as_slice.result.now) ≡ Ok (overlaid (assembled ts r.tables) ws) = c.in-Ok.ensures.done in
-    goes_on c.args.skips.now c.args.scn c.args.changes (ahead_of r) ts r.tables ws _ c.in-Some.made c.in-Some-checked_add.n
+    goes_on c.args.skips.now c.args.scn c.args.changes (ahead_of r) ts r.tables ws _ _ c.in-Some.made c.in-Some-checked_add.n
     (shown_whole r.whole ts r.tables c.requires.whole) (not_below c.args.self.now.made c.args.self.now.n c.if-self.false)
     (ap (λ (ps : List Placed). effects (assembled ts r.tables) (kept_of c.args.skips.now ts r.n ps)) (sym cs) ∙ done)
-    few (shown_whole r.whole ts c.put_in.new.tables c.requires.whole ∙ left) (c.in-Some.ensures).1 (c.in-Some-checked_add.ensures).1
+    few (shown_whole r.whole ts c.put_in.new.tables c.requires.whole ∙ left) (c.in-Some.ensures).1 (c.in-Some-checked_add.ensures).1 (none_wait r.whole r.tables c.put_in.new.tables c.requires.whole)
