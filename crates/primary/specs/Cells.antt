@@ -1,4 +1,4 @@
--- Records whose changes have cells as they are decoded: their columns rise, and each stands once.
+-- Records whose changes have new cells as decoded ones do: their columns rise, and each stands once.
 use Rattle.std.specs.Prelude.{◌≡◌, List, ⊤, true}
 use Rattle.std.specs.List.{AllByRecursion}
 use Rattle.rl_value.specs.Text.{are_cells}

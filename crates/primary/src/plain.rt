@@ -80,9 +80,10 @@ pub struct Folded {
     pub scn: Scn,
     /// The rows after it.
     pub tables: PlainTables,
-    /// The dictionary that the records leave; its tables name those of the end.
+    /// The dictionary that the records leave. The tables of the fold's end are named by it.
     pub dict: Dict,
-    /// The dictionary was whole before the end, so that the rows are its tables. Else no table is shown, and the rows are those that waited.
+    /// The dictionary was whole before the end, so that the rows are its tables. Else no table is shown, and the rows are those
+    /// that waited.
     pub whole: bool,
     /// Why the fold goes no further.
     pub end: Verdict,

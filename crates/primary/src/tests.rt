@@ -98,6 +98,17 @@ fn folded(alloc: Global, recs: &[(Header, RedoRec)]) -> Result<Folded, Fail> {
     Ok(fold_plain(alloc, Plain::first(alloc, 1, 99), recs, &skips)?)
 }
 
+// The IDs of the rows of table 1, in rising order of its key.
+fn ids(alloc: Global, tables: &PlainTables) -> Result<Vec<i64>, Fail> {
+    let mut ids = Vec::new(alloc);
+    for row in tables.rows(1) {
+        if let [Value::Number(id), ..] = row.values() {
+            ids.push(*id)?;
+        }
+    }
+    Ok(ids)
+}
+
 #[test]
 fn a_commit_is_shown(rt: HostRuntime) -> Result<(), Fail> {
     let alloc = rt.alloc();
@@ -110,8 +121,7 @@ fn a_commit_is_shown(rt: HostRuntime) -> Result<(), Fail> {
     let drained = matches!(&shown.end, Verdict::Stopped(Stop::Drained));
     assert_eq!(rt; drained, true);
     let Some(row) = shown.tables.rows(1).next() else {
-        assert_eq!(rt; true, false, "a row");
-        return Ok(());
+        return Err(Fail::from("a row"));
     };
     let wanted = [Value::Number(7)];
     let same = row.values() == wanted.as_slice();
@@ -139,6 +149,9 @@ fn undone_and_rolled_back_changes_are_not_shown(rt: HostRuntime) -> Result<(), F
     let shown = folded(alloc, recs.as_slice())?;
     assert_eq!(rt; shown.n, 2);
     assert_eq!(rt; shown.tables.count(1), 2);
+    let ids = ids(alloc, &shown.tables)?;
+    let same = matches!(ids.as_slice(), [7, 8]);
+    assert_eq!(rt; same, true);
     Ok(())
 }
 
@@ -341,18 +354,19 @@ fn owner_told(end: &Verdict) -> Option<i64> {
 fn a_unique_value_has_the_owner_that_it_has_now(rt: HostRuntime) -> Result<(), Fail> {
     let alloc = rt.alloc();
     let cases = [
-        (0, 7, None),
-        (1, 7, Some(1)),
-        (2, 7, None),
-        (2, 8, Some(1)),
-        (3, 7, Some(2)),
-        (4, 7, None),
-        (4, 8, Some(1)),
+        (0, 7, None, 1),
+        (1, 7, Some(1), 1),
+        (2, 7, None, 3),
+        (2, 8, Some(1), 2),
+        (3, 7, Some(2), 3),
+        (4, 7, None, 5),
+        (4, 8, Some(1), 4),
     ];
-    for (count, code, owner) in cases {
+    for (count, code, owner, n) in cases {
         let recs = coded_redo(alloc, count, code)?;
         let shown = folded(alloc, recs.as_slice())?;
         assert_eq!(rt; owner_told(&shown.end), owner, "{code} after {count}");
+        assert_eq!(rt; shown.n, n, "{code} after {count}");
     }
     Ok(())
 }
@@ -420,8 +434,7 @@ fn rows_wait_for_the_dictionary(rt: HostRuntime) -> Result<(), Fail> {
     assert_eq!(rt; shown.tables.count(1), 1);
     assert_eq!(rt; shown.tables.count(2), 1);
     let Some(found) = shown.tables.rows(1).next() else {
-        assert_eq!(rt; true, false, "a row");
-        return Ok(());
+        return Err(Fail::from("a row"));
     };
     let wanted = [Value::Number(1), Value::Number(8)];
     let same = found.values() == wanted.as_slice();
@@ -459,7 +472,7 @@ fn rows_that_are_no_sound_tables_are_told(rt: HostRuntime) -> Result<(), Fail> {
 }
 
 #[test]
-fn a_copy_has_the_same_rows(rt: HostRuntime) -> Result<(), Fail> {
+fn a_copy_has_as_many_rows(rt: HostRuntime) -> Result<(), Fail> {
     let alloc = rt.alloc();
     let recs = seven(alloc)?;
     let shown = folded(alloc, recs.as_slice())?.copy()?;
