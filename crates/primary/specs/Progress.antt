@@ -85,6 +85,11 @@ abbrev pub recs_of : Progress → ℕ
 recs_of (Going a) = a.standing.rec
 recs_of (Ended f) = 0
 
+-- the fact holds of a fold that goes on
+abbrev pub OnGoing : Progress → (Ahead → Type 0) → Type 0
+OnGoing (Going a) P = P a
+OnGoing (Ended f) P = ⊤
+
 -- the fold that comes no further than here
 abbrev pub held_at : Ahead → Verdict → Folded
 held_at a v = record { n = a.n; scn = a.scn; tables = a.tables; names = a.standing.dictionary.tables; verdict = v }

@@ -1,9 +1,9 @@
 //! The evaluator, which takes the records of a redo one by one.
-ghost use Rattle.std.specs.Prelude.{◌≡◌, ◌+◌, ◌<◌, ◌≤◌, ◌^◌, [], IfOk, OnOk, Err, true};
+ghost use Rattle.std.specs.Prelude.{◌≡◌, ◌+◌, ◌<◌, ◌≤◌, ◌^◌, [], IfOk, OnOk, Err, true, false};
 ghost use Rattle.redo_spec.specs.Tables.{assembled};
 ghost use Rattle.row_apply.specs.Soundness.{AreSound};
 ghost use Rattle.primary.specs.Running.{AreKept};
-ghost use Rattle.primary.specs.Progress.{is_going, recs_of, RowsAreSound, after_record, end_of};
+ghost use Rattle.primary.specs.Progress.{is_going, recs_of, OnGoing, RowsAreSound, after_record, end_of};
 ghost use Rattle.primary.specs.Starts.{IsStart, begun, shown};
 ghost use Rattle.primary.specs.declared.fault.TakeFault.TheVariants.{Unsound};
 
@@ -114,6 +114,9 @@ impl Evaluator {
     pub fn finish(self, stop: Stop) -> Folded
         ensures shown { shown result ≡ end_of stop self }
         ensures sound { AreSound (shown result).tables }
+        ensures dictionary { OnGoing self (λ a. result.dict ≡ a.standing.dictionary) }
+        ensures whole { OnGoing self (λ a. result.whole ≡ a.standing.dictionary.finished) }
+        ensures waiting { OnGoing self (λ a. result.whole ≡ false → result.tables ≡ a.waiting) }
     {
         let Evaluator { run, end } = self;
         let Running {
