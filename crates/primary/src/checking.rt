@@ -13,7 +13,7 @@ use rl_value::{NoMemory, Row};
 
 // The columns of the primary key.
 fn primary_of(table: &TableRow) -> &[u8]
-    ensures { result.now ≡ primary_of table.now }
+    ensures same { result.now ≡ primary_of table.now }
 {
     match table.keys.items() {
         [] => &[],
@@ -29,7 +29,7 @@ fn row_holds(
     row: &Row,
 ) -> Result<bool, NoMemory>
     requires there { table_of dict.now.tables table.now.id ≡ Some table.now }
-    ensures { IfOk result (λ holds. holds ≡ row_holds table.now index.now (key.now, row.now)) }
+    ensures exact { IfOk result (λ holds. holds ≡ row_holds table.now index.now (key.now, row.now)) }
 {
     if !dict.check_row(table.id, row) {
         return Ok(false);
@@ -47,7 +47,7 @@ fn rows_hold(
     rows: &PlainRows,
 ) -> Result<bool, NoMemory>
     requires there { table_of dict.now.tables table.now.id ≡ Some table.now }
-    ensures { IfOk result (λ hold. hold ≡ rows_hold table.now index.now rows.now) }
+    ensures exact { IfOk result (λ hold. hold ≡ rows_hold table.now index.now rows.now) }
 {
     for (key, row) in rows.iter() {
         if !row_holds(dict, table, index, key, row)? {
@@ -64,7 +64,7 @@ fn table_holds(
     tables: &PlainTables,
 ) -> Result<bool, NoMemory>
     requires there { table_of dict.now.tables table.now.id ≡ Some table.now }
-    ensures { IfOk result (λ holds. holds ≡ rows_hold table.now index.now (rows_by tables.now table.now.id)) }
+    ensures exact { IfOk result (λ holds. holds ≡ rows_hold table.now index.now (rows_by tables.now table.now.id)) }
 {
     match tables.table(table.id) {
         None => Ok(true),
@@ -75,7 +75,7 @@ fn table_holds(
 /// Each of these tables of the dictionary has rows that rise, of which each fits its table, stands under its own primary
 /// key, and has its unique values alone.
 pub fn tables_hold(dict: &Dict, tables: &PlainTables, index: &UniqueIndex) -> Result<bool, NoMemory>
-    ensures { IfOk result (λ hold. hold ≡ tables_hold dict.now.tables tables.now index.now) }
+    ensures exact { IfOk result (λ hold. hold ≡ tables_hold dict.now.tables tables.now index.now) }
 {
     let mut rest = dict.tables();
     while let [table, others @ ..] = rest {

@@ -29,7 +29,7 @@ impl Model for Survivors {
 impl Survivors {
     /// No change. It takes no memory yet.
     pub fn new(alloc: Global) -> Survivors
-        ensures { result ≡ [] }
+        ensures empty { result ≡ [] }
     {
         Survivors {
             changes: Vec::new(alloc),
@@ -37,7 +37,7 @@ impl Survivors {
     }
 
     fn add(&mut self, at: Pos, change: Change) -> Result<(), NoMemory>
-        ensures { OnOk result (self.new ≡ self.old ++ (at, change) ∷ []) }
+        ensures added { OnOk result (self.new ≡ self.old ++ (at, change) ∷ []) }
     {
         match self.changes.push((at, change)) {
             Ok(()) => Ok(()),
@@ -46,13 +46,13 @@ impl Survivors {
     }
 
     fn take_back(&mut self)
-        ensures { self.new ≡ take (length self.old - 1) self.old }
+        ensures taken { self.new ≡ take (length self.old - 1) self.old }
     {
         let _ = self.changes.pop();
     }
 
     pub fn into_items(self) -> Vec<(Pos, Change)>
-        ensures { result.items ≡ self }
+        ensures same { result.items ≡ self }
     {
         self.changes
     }
@@ -76,7 +76,7 @@ impl Model for LiveChanges {
 impl LiveChanges {
     /// No open transaction. It takes no memory yet.
     pub fn new(alloc: Global) -> LiveChanges
-        ensures { result ≡ [] }
+        ensures empty { result ≡ [] }
     {
         LiveChanges {
             alloc,
@@ -85,7 +85,7 @@ impl LiveChanges {
     }
 
     fn start(&mut self, xid: Xid) -> Result<(), NoMemory>
-        ensures { OnOk result (self.new ≡ opened xid self.old) }
+        ensures opened { OnOk result (self.new ≡ opened xid self.old) }
     {
         match self.by_xid.insert(xid, Survivors::new(self.alloc)) {
             Ok(_) => Ok(()),
@@ -94,7 +94,7 @@ impl LiveChanges {
     }
 
     fn change(&mut self, at: Pos, change: Change) -> Result<(), NoMemory>
-        ensures { OnOk result (self.new ≡ rechanged change.xid (λ ps. ps ++ (at, change) ∷ []) self.old (changes_of change.xid self.old)) }
+        ensures changed { OnOk result (self.new ≡ rechanged change.xid (λ ps. ps ++ (at, change) ∷ []) self.old (changes_of change.xid self.old)) }
     {
         match self.by_xid.get_mut(&change.xid) {
             None => Ok(()),
@@ -103,7 +103,7 @@ impl LiveChanges {
     }
 
     fn undo(&mut self, xid: Xid)
-        ensures { self.new ≡ rechanged xid (λ ps. take (length ps - 1) ps) self.old (changes_of xid self.old) }
+        ensures undone { self.new ≡ rechanged xid (λ ps. take (length ps - 1) ps) self.old (changes_of xid self.old) }
     {
         match self.by_xid.get_mut(&xid) {
             None => {}

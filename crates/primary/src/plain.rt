@@ -59,7 +59,7 @@ impl Plain {
 
     /// An equal start.
     pub fn copy(&self) -> Result<Plain, NoMemory>
-        ensures { IfOk result (λ copy. copy ≡ self.now) }
+        ensures equal { IfOk result (λ copy. copy ≡ self.now) }
     {
         Ok(Plain {
             law: self.law.copy()?,
@@ -92,7 +92,7 @@ pub struct Folded {
 impl Folded {
     /// An equal one.
     pub fn copy(&self) -> Result<Folded, NoMemory>
-        ensures { IfOk result (λ copy. copy ≡ self.now) }
+        ensures equal { IfOk result (λ copy. copy ≡ self.now) }
     {
         Ok(Folded {
             n: self.n,

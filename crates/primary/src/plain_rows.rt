@@ -36,7 +36,7 @@ impl Model for PlainRows {
 impl PlainRows {
     /// No row. It takes no memory yet.
     pub fn new(alloc: Global) -> PlainRows
-        ensures { result ≡ [] }
+        ensures empty { result ≡ [] }
     {
         PlainRows {
             alloc,
@@ -46,7 +46,7 @@ impl PlainRows {
 
     /// The row with this primary key.
     pub fn get(&self, key: &Row) -> Option<&Row>
-        ensures { option_copied result ≡ find row_cmp key.now self.now }
+        ensures found { option_copied result ≡ find row_cmp key.now self.now }
     {
         self.rows.get(key)
     }
@@ -84,7 +84,7 @@ impl PlainRows {
 
     /// The rows in rising order of their keys.
     pub fn rows(&self) -> Values<'_, Row, Row>
-        ensures { result ≡ map (λ r. r.1) self.now }
+        ensures rows { result ≡ map (λ r. r.1) self.now }
     {
         self.rows.values()
     }
@@ -100,7 +100,7 @@ impl PlainRows {
 
     /// Equal rows.
     pub fn copy(&self) -> Result<PlainRows, NoMemory>
-        ensures { IfOk result (λ copy. copy ≡ self.now) }
+        ensures equal { IfOk result (λ copy. copy ≡ self.now) }
     {
         let mut copies = PlainRows::new(self.alloc);
         for (key, row) in self.rows.iter() {
@@ -114,7 +114,7 @@ impl PlainRows {
 
 // The row has this value in this column; it has Null in a column that it lacks.
 fn has_value(row: &Row, column: u8, value: &Value) -> bool
-    ensures { result ≡ eq_by_cmp value_cmp (value_in row.now column) value.now }
+    ensures exact { result ≡ eq_by_cmp value_cmp (value_in row.now column) value.now }
 {
     match row.values().get(column as usize) {
         None => Value::Null == *value,
@@ -124,7 +124,7 @@ fn has_value(row: &Row, column: u8, value: &Value) -> bool
 
 /// The row has these values in these columns, one for each.
 pub fn has_values(row: &Row, columns: &[u8], values: &[Value]) -> bool
-    ensures { result ≡ eq_by_cmp row_cmp (values_at row.now columns.now) values.now }
+    ensures exact { result ≡ eq_by_cmp row_cmp (values_at row.now columns.now) values.now }
 {
     let mut columns_left = columns;
     let mut values_left = values;

@@ -32,7 +32,7 @@ impl Model for PlainTables {
 impl PlainTables {
     /// No row. It takes no memory yet.
     pub fn new(alloc: Global) -> PlainTables
-        ensures { result ≡ [] }
+        ensures empty { result ≡ [] }
     {
         PlainTables {
             alloc,
@@ -43,7 +43,7 @@ impl PlainTables {
     /// The row with this primary key.
     #[tactic(auto, using(crate::proofs::MapLemmas::rows_by_is))]
     pub fn get(&self, table: u32, key: &Row) -> Option<&Row>
-        ensures { option_copied result ≡ find row_cmp key.now (rows_by self.now table) }
+        ensures found { option_copied result ≡ find row_cmp key.now (rows_by self.now table) }
     {
         match self.tables.get(&table) {
             None => None,
@@ -70,7 +70,7 @@ impl PlainTables {
 
     /// Takes the row with this key away, if it is there.
     pub fn take(&mut self, table: u32, key: &Row)
-        ensures { self.new ≡ without_row self.old table key.now }
+        ensures taken { self.new ≡ without_row self.old table key.now }
     {
         match self.tables.get_mut(&table) {
             None => {}
@@ -82,7 +82,7 @@ impl PlainTables {
 
     /// Puts the written row, or takes it away.
     pub(crate) fn write(&mut self, write: Write) -> Result<(), NoMemory>
-        ensures { OnOk result (self.new ≡ written_beside self.old write write.row) }
+        ensures written { OnOk result (self.new ≡ written_beside self.old write write.row) }
     {
         let Write { table, key, row } = write;
         match row {
@@ -97,7 +97,7 @@ impl PlainTables {
     /// The rows of the table, if any was ever put into it.
     #[tactic(auto, using(crate::proofs::MapLemmas::rows_by_is))]
     pub(crate) fn table(&self, table: u32) -> Option<&PlainRows>
-        ensures { unwrap_or (option_copied result) [] ≡ rows_by self.now table }
+        ensures rows { unwrap_or (option_copied result) [] ≡ rows_by self.now table }
     {
         self.tables.get(&table)
     }
@@ -117,7 +117,7 @@ impl PlainTables {
     /// The rows of the table, in rising order of its primary key.
     #[tactic(auto, using(crate::proofs::MapLemmas::rows_by_is))]
     pub fn rows(&self, table: u32) -> PlainList<'_>
-        ensures { result ≡ map (λ r. r.1) (rows_by self.now table) }
+        ensures rows { result ≡ map (λ r. r.1) (rows_by self.now table) }
     {
         match self.tables.get(&table) {
             None => PlainList { rows: None },
@@ -129,7 +129,7 @@ impl PlainTables {
 
     /// Equal tables.
     pub fn copy(&self) -> Result<PlainTables, NoMemory>
-        ensures { IfOk result (λ copy. copy ≡ self.now) }
+        ensures equal { IfOk result (λ copy. copy ≡ self.now) }
     {
         let mut tables = BTreeMap::new(self.alloc);
         for (table, rows) in self.tables.iter() {

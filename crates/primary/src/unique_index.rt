@@ -42,13 +42,13 @@ impl UniqueIndex {
 
     /// The primary key to which the value leads.
     pub fn lead(&self, unique: &Key) -> Option<&Row>
-        ensures { option_copied result ≡ lead_of self.now unique.now }
+        ensures found { option_copied result ≡ lead_of self.now unique.now }
     {
         self.owners.get(unique)
     }
 
     fn leads(&self, unique: &Option<Key>, key: &Row) -> bool
-        ensures { result ≡ value_leads self.now key.now unique.now }
+        ensures exact { result ≡ value_leads self.now key.now unique.now }
     {
         match unique {
             None => true,
@@ -58,7 +58,7 @@ impl UniqueIndex {
 
     /// Each unique value of the row leads to this primary key.
     pub fn leads_all(&self, table: &TableRow, key: &Row, row: &Row) -> Result<bool, NoMemory>
-        ensures { IfOk result (λ all. all ≡ leads_from self.now table.now.id 1 (uniques_of table.now) key.now row.now) }
+        ensures exact { IfOk result (λ all. all ≡ leads_from self.now table.now.id 1 (uniques_of table.now) key.now row.now) }
     {
         let mut rest = unique_keys(table);
         let mut number: u8 = 1;
@@ -75,7 +75,7 @@ impl UniqueIndex {
 
     /// From now on each unique value of the row leads to this primary key.
     pub fn enter(&mut self, table: &TableRow, key: &Row, row: &Row) -> Result<(), NoMemory>
-        ensures { OnOk result ((q : Key) → lead_of self.new q ≡ entered (has_unique table.now row.now q) key.now (lead_of self.old q)) }
+        ensures entered { OnOk result ((q : Key) → lead_of self.new q ≡ entered (has_unique table.now row.now q) key.now (lead_of self.old q)) }
     {
         let mut rest = unique_keys(table);
         let mut number: u8 = 1;
@@ -90,7 +90,7 @@ impl UniqueIndex {
 
     /// No unique value of the row leads to this primary key any more.
     pub fn leave(&mut self, table: &TableRow, key: &Row, row: &Row) -> Result<(), NoMemory>
-        ensures { OnOk result ((q : Key) → lead_of self.new q ≡ left (has_unique table.now row.now q) key.now (lead_of self.old q)) }
+        ensures left { OnOk result ((q : Key) → lead_of self.new q ≡ left (has_unique table.now row.now q) key.now (lead_of self.old q)) }
     {
         let mut rest = unique_keys(table);
         let mut number: u8 = 1;
@@ -104,7 +104,7 @@ impl UniqueIndex {
     }
 
     fn leave_slot(&mut self, table: &TableRow, key: &Row, was: Option<&Row>) -> Result<(), NoMemory>
-        ensures { OnOk result ((q : Key) → lead_of self.new q ≡ left (slot_has table.now (option_copied was.entry) q) key.now (lead_of self.old q)) }
+        ensures left { OnOk result ((q : Key) → lead_of self.new q ≡ left (slot_has table.now (option_copied was.entry) q) key.now (lead_of self.old q)) }
     {
         match was {
             None => Ok(()),
@@ -118,7 +118,7 @@ impl UniqueIndex {
         key: &Row,
         slot: &Option<Row>,
     ) -> Result<(), NoMemory>
-        ensures { OnOk result ((q : Key) → lead_of self.new q ≡ entered (slot_has table.now slot.now q) key.now (lead_of self.old q)) }
+        ensures entered { OnOk result ((q : Key) → lead_of self.new q ≡ entered (slot_has table.now slot.now q) key.now (lead_of self.old q)) }
     {
         match slot {
             None => Ok(()),
@@ -134,7 +134,7 @@ impl UniqueIndex {
         was: Option<&Row>,
         slot: &Option<Row>,
     ) -> Result<(), NoMemory>
-        ensures { OnOk result ((q : Key) → lead_of self.new q ≡ rewritten table.now key.now (option_copied was.entry) slot.now q (lead_of self.old q)) }
+        ensures rewritten { OnOk result ((q : Key) → lead_of self.new q ≡ rewritten table.now key.now (option_copied was.entry) slot.now q (lead_of self.old q)) }
     {
         self.leave_slot(table, key, was)?;
         self.enter_slot(table, key, slot)
@@ -147,7 +147,7 @@ fn enter_value(
     unique: Option<Key>,
     key: &Row,
 ) -> Result<(), NoMemory>
-    ensures { OnOk result ((q : Key) → tree.get key_cmp owners.new q ≡ entered (is_key q unique) key.now (tree.get key_cmp owners.old q)) }
+    ensures entered { OnOk result ((q : Key) → tree.get key_cmp owners.new q ≡ entered (is_key q unique) key.now (tree.get key_cmp owners.old q)) }
 {
     let Some(unique) = unique else {
         return Ok(());
@@ -160,7 +160,7 @@ fn enter_value(
 }
 
 fn leads_to(found: Option<&Row>, key: &Row) -> bool
-    ensures { result ≡ leads key.now (option_copied found.entry) }
+    ensures exact { result ≡ leads key.now (option_copied found.entry) }
 {
     match found {
         None => false,
@@ -170,7 +170,7 @@ fn leads_to(found: Option<&Row>, key: &Row) -> bool
 
 // The value does not lead to this primary key.
 fn leave_value(owners: &mut BTreeMap<Key, Row>, unique: Option<Key>, key: &Row)
-    ensures { (q : Key) → tree.get key_cmp owners.new q ≡ left (is_key q unique) key.now (tree.get key_cmp owners.old q) }
+    ensures left { (q : Key) → tree.get key_cmp owners.new q ≡ left (is_key q unique) key.now (tree.get key_cmp owners.old q) }
 {
     let Some(unique) = unique else {
         return;

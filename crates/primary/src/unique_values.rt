@@ -15,7 +15,7 @@ pub fn unique_value(
     columns: &KeyColumns,
     row: &Row,
 ) -> Result<Option<Key>, NoMemory>
-    ensures { IfOk result (λ value. value ≡ unique_at table number columns.now row.now) }
+    ensures exact { IfOk result (λ value. value ≡ unique_at table number columns.now row.now) }
 {
     let values = key_row(alloc, row, columns)?;
     if has_null(values.values()) {

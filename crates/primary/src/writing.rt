@@ -23,7 +23,7 @@ use row_apply::{Write, Writes};
 const MAX_LIVE_ROWS: u64 = 1_048_576;
 
 fn plus(count: u64, more: u64) -> Result<u64, NoMemory>
-    ensures { IfOk result (λ sum. sum ≡ count + more) }
+    ensures sum { IfOk result (λ sum. sum ≡ count + more) }
 {
     match count.checked_add(more) {
         // No store has 2^64 rows; the answer without a cause stands for it.
@@ -35,7 +35,7 @@ fn plus(count: u64, more: u64) -> Result<u64, NoMemory>
 /// How many rows there are in these tables.
 #[tactic(auto, using(crate::proofs::TableLaws::rows_counted))]
 pub fn count_rows(dict: &Dict, tables: &PlainTables) -> Result<u64, NoMemory>
-    ensures { IfOk result (λ count. count ≡ row_count (assembled dict.now.tables tables.now)) }
+    ensures exact { IfOk result (λ count. count ≡ row_count (assembled dict.now.tables tables.now)) }
 {
     let mut count: u64 = 0;
     let mut rest = dict.tables();
@@ -48,7 +48,7 @@ pub fn count_rows(dict: &Dict, tables: &PlainTables) -> Result<u64, NoMemory>
 
 // 1 where the write puts a row where none is.
 fn one_added(tables: &PlainTables, write: &Write) -> u64
-    ensures { result ≡ cond (is_added tables.now write.now) 1 0 }
+    ensures exact { result ≡ cond (is_added tables.now write.now) 1 0 }
 {
     if write.row.is_some() && tables.get(write.table, &write.key).is_none() {
         return 1;
@@ -58,7 +58,7 @@ fn one_added(tables: &PlainTables, write: &Write) -> u64
 
 // 1 where the write takes a row away.
 fn one_removed(tables: &PlainTables, write: &Write) -> u64
-    ensures { result ≡ cond (is_removed tables.now write.now) 1 0 }
+    ensures exact { result ≡ cond (is_removed tables.now write.now) 1 0 }
 {
     if write.row.is_none() && tables.get(write.table, &write.key).is_some() {
         return 1;
@@ -68,7 +68,7 @@ fn one_removed(tables: &PlainTables, write: &Write) -> u64
 
 // So many rows, and those that the writes put where none is.
 fn count_added(tables: &PlainTables, count: u64, writes: &[Write]) -> Result<u64, NoMemory>
-    ensures { IfOk result (λ more. more ≡ count + added tables.now writes.now) }
+    ensures sum { IfOk result (λ more. more ≡ count + added tables.now writes.now) }
 {
     let mut more = count;
     let mut rest = writes;
@@ -80,7 +80,7 @@ fn count_added(tables: &PlainTables, count: u64, writes: &[Write]) -> Result<u64
 }
 
 fn count_removed(tables: &PlainTables, writes: &[Write]) -> Result<u64, NoMemory>
-    ensures { IfOk result (λ fewer. fewer ≡ removed tables.now writes.now) }
+    ensures exact { IfOk result (λ fewer. fewer ≡ removed tables.now writes.now) }
 {
     let mut fewer = 0;
     let mut rest = writes;
@@ -102,7 +102,7 @@ fn count_after(
     requires sound { AreSound (assembled dict.now.tables tables.now) }
     requires of_tables { IsTrue (are_of dict.now.tables writes.now) }
     requires rising { IsTrue (writes_rise writes.now) }
-    ensures { IfOk result (λ after. after ≡ row_count (overlaid (assembled dict.now.tables tables.now) writes.now)) }
+    ensures exact { IfOk result (λ after. after ≡ row_count (overlaid (assembled dict.now.tables tables.now) writes.now)) }
 {
     // The tables differ from one another, so that each write counts once.
     let _ = dict.tables();
@@ -117,7 +117,7 @@ fn index_write(
     index: &mut UniqueIndex,
     write: &Write,
 ) -> Result<(), NoMemory>
-    ensures { OnOk result ((q : Key) → lead_of index.new q ≡ after_write dict.now.tables tables.now write.now q (lead_of index.old q)) }
+    ensures indexed { OnOk result ((q : Key) → lead_of index.new q ≡ after_write dict.now.tables tables.now write.now q (lead_of index.old q)) }
 {
     match dict.def(write.table) {
         None => Ok(()),

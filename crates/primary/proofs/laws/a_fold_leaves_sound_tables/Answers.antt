@@ -2,4 +2,4 @@ use Rattle.primary.proofs.SoundLaws.{fold_sound}
 use Rattle.primary.proofs.laws.a_fold_leaves_sound_tables.Goals as goal
 
 pub returns : goal.returns
-returns c = fold_sound
+returns c = record { sound = fold_sound }

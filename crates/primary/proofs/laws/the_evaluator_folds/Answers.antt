@@ -2,4 +2,4 @@ use Rattle.primary.proofs.FoldsLaw.{progress_folds}
 use Rattle.primary.proofs.laws.the_evaluator_folds.Goals as goal
 
 pub returns : goal.returns
-returns c = progress_folds
+returns c = record { folds = progress_folds }

@@ -6,15 +6,15 @@ use Rattle.primary.proofs.UniqueLaws.{left_own, left_other}
 use Rattle.primary.proofs.unique_index.leave_value.Goals as goal
 
 pub returns-then-leads_to : goal.returns-then-leads_to
-returns-then-leads_to c = λ q.
+returns-then-leads_to c =
     let holds = tree.get key_cmp c.args.owners.now in
     let key = c.args.key.now in
-    let there : leads key (holds c.in-Some.unique) ≡ true = sym (c.leads_to.ensures ∙ ap (leads key) c.get.ensures.value) ∙ c.if-leads_to.true in
-    c.remove.ensures.updates.0 q ∙ left_own holds c.in-Some.unique key there q ∙ ap (λ o. left (is_key q o) key (holds q)) (sym c.in-Some.is)
+    let there : leads key (holds c.in-Some.unique) ≡ true = sym (c.leads_to.ensures.exact ∙ ap (leads key) c.get.ensures.value) ∙ c.if-leads_to.true in
+    record { left = λ q. c.remove.ensures.updates.0 q ∙ left_own holds c.in-Some.unique key there q ∙ ap (λ o. left (is_key q o) key (holds q)) (sym c.in-Some.is) }
 
 pub returns : goal.returns
-returns c = λ q.
+returns c =
     let holds = tree.get key_cmp c.args.owners.now in
     let key = c.args.key.now in
-    let elsewhere : leads key (holds c.in-Some.unique) ≡ false = sym (c.leads_to.ensures ∙ ap (leads key) c.get.ensures.value) ∙ c.if-leads_to.false in
-    left_other holds c.in-Some.unique key elsewhere q ∙ ap (λ o. left (is_key q o) key (holds q)) (sym c.in-Some.is)
+    let elsewhere : leads key (holds c.in-Some.unique) ≡ false = sym (c.leads_to.ensures.exact ∙ ap (leads key) c.get.ensures.value) ∙ c.if-leads_to.false in
+    record { left = λ q. left_other holds c.in-Some.unique key elsewhere q ∙ ap (λ o. left (is_key q o) key (holds q)) (sym c.in-Some.is) }

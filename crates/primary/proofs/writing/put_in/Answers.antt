@@ -14,6 +14,6 @@ returns-clause-written c = ap (assembled c.args.dict.now.tables) c.in_ok-write_a
 pub returns-clause-counted : goal.returns-clause-counted
 returns-clause-counted c =
     let before = assembled c.args.dict.now.tables c.args.tables.now in
-    c.in_ok-after.ensures
+    c.in_ok-after.ensures.exact
     ∙ ap (λ ws. row_count (overlaid before ws)) c.items.ensures.same
     ∙ sym (ap row_count (ap (assembled c.args.dict.now.tables) c.in_ok-write_all.ensures.written ∙ assembled_written c.args.dict.now.tables c.args.tables.now c.args.writes))

@@ -20,4 +20,4 @@ loop-write-preserved c =
     let next : into_iter_items c.loop-write.write-iterator ≡ c.in-Some.write ∷ rest = c.in-Some.ensures.steps.0 in
     let P : List Write → Type 0 = λ ws. Indexing ts final c.loop-write.tables ws c.loop-write.index in
     indexing_more ts final c.loop-write.tables c.write.new.self c.in-Some.write rest c.loop-write.index c.index_write.new.index (subst P next c.loop-write.invariant) c.requires.sound
-    c.in_ok-index_write.ensures c.in_ok-write.ensures
+    c.in_ok-index_write.ensures.indexed c.in_ok-write.ensures.written

@@ -15,7 +15,7 @@ returns c =
     let key = c.args.key.now in
     let there : IsSome (table_of b.dictionary.tables key.table) = subst (λ (us : List TableRow). IsSome (table_of us key.table)) (definitions_assembled b.dictionary.tables b.rows) c.requires.there in
     record {
-      row = c.get.ensures
+      row = c.get.ensures.found
           ∙ ap (λ (v : Beneath). find row_cmp key.values (rows_by v.rows key.table)) c.self.view_is
           ∙ sym (row_at_assembled b.dictionary.tables b.rows key there);
     }

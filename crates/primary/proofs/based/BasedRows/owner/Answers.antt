@@ -34,4 +34,4 @@ returns-in-Some c =
     let b = c.args.self.now in
     let key = c.args.key.now in
     let at : table_of b.dictionary.tables key.table ≡ Some c.in-Some.table.now = ap (λ (v : Beneath). table_of v.dictionary.tables key.table) (sym c.self.view_is) ∙ sym c.in-Some.ensures.found in
-    record { owner = c.owner_in.ensures ∙ sym (owner_of_assembled b.dictionary.tables b.rows key c.in-Some.table.now at) }
+    record { owner = c.owner_in.ensures.owner ∙ sym (owner_of_assembled b.dictionary.tables b.rows key c.in-Some.table.now at) }

@@ -28,7 +28,7 @@ invariant_of-result c =
     λ i. tables_shown ((whole ∙ ap (λ d. d.finished) law) i) (law i).tables start.tables in
     let sound : AreSound (tables_shown c.finished-whole.result c.in-Ok.law.dictionary.tables start.tables) = subst (λ (ts : Tables). AreSound ts) (sym tables) c.requires.fits.sound in (
       λ none. record {
-        fits = subst (λ (live : OpenChanges). Fits c.in-Ok.law live) (sym c.new-2.ensures) (subst (λ (s : Standing). Fits s []) (sym c.in-Ok.ensures.begun) (fits_first start));
+        fits = subst (λ (live : OpenChanges). Fits c.in-Ok.law live) (sym c.new-2.ensures.empty) (subst (λ (s : Standing). Fits s []) (sym c.in-Ok.ensures.begun) (fits_first start));
         whole = whole;
         rec = sym (ap (λ (s : Standing). s.rec) c.in-Ok.ensures.begun);
         sound = sound;

@@ -24,4 +24,4 @@ returns-in-Ok-None-clause-records c =
 pub invariant_of-self-in-Err : goal.invariant_of-self-in-Err
 invariant_of-self-in-Err c =
     let run = c.step.new.self in
-    (λ none. absurd (cc), subst (λ (rows : RowsById). AreSound (tables_shown run.whole run.law.dictionary.tables rows)) (sym c.new.ensures) (sound_without run.whole run.law.dictionary.tables))
+    (λ none. absurd (cc), subst (λ (rows : RowsById). AreSound (tables_shown run.whole run.law.dictionary.tables rows)) (sym c.new.ensures.empty) (sound_without run.whole run.law.dictionary.tables))

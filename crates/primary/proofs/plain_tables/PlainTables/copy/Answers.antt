@@ -8,7 +8,7 @@ use Rattle.primary.proofs.plain_tables.PlainTables.copy.Goals as goal
 
 pub loop-table-preserved-in-Ok : goal.loop-table-preserved-in-Ok
 loop-table-preserved-in-Ok c =
-    let rows : c.in_ok-rows.rows ≡ c.in-Some.rows.now = c.in_ok-rows.ensures in
+    let rows : c.in_ok-rows.rows ≡ c.in-Some.rows.now = c.in_ok-rows.ensures.equal in
     let put : c.insert.new.self.entries ≡ insert_entry nat_cmp c.loop-table.tables.entries c.in-Some.table.now c.in_ok-rows.rows = c.in-Ok.ensures.entries in
     let more : c.insert.new.self.entries ≡ entries.put nat_cmp c.in-Some.table.now c.in-Some.rows.now c.loop-table.tables.entries =
     put ∙ put_is_insert nat_cmp c.in-Some.table.now c.in_ok-rows.rows c.loop-table.tables.entries ∙ (λ i. entries.put nat_cmp c.in-Some.table.now (rows i) c.loop-table.tables.entries) in
@@ -18,7 +18,7 @@ loop-table-preserved-in-Ok c =
 
 pub loop-table-preserved-in-Ok-2 : goal.loop-table-preserved-in-Ok-2
 loop-table-preserved-in-Ok-2 c =
-    let rows : c.in_ok-rows.rows ≡ c.in-Some.rows.now = c.in_ok-rows.ensures in
+    let rows : c.in_ok-rows.rows ≡ c.in-Some.rows.now = c.in_ok-rows.ensures.equal in
     let put : c.insert.new.self.entries ≡ insert_entry nat_cmp c.loop-table.tables.entries c.in-Some.table.now c.in_ok-rows.rows = c.in-Ok.ensures.entries in
     let more : c.insert.new.self.entries ≡ entries.put nat_cmp c.in-Some.table.now c.in-Some.rows.now c.loop-table.tables.entries =
     put ∙ put_is_insert nat_cmp c.in-Some.table.now c.in_ok-rows.rows c.loop-table.tables.entries ∙ (λ i. entries.put nat_cmp c.in-Some.table.now (rows i) c.loop-table.tables.entries) in

@@ -12,7 +12,7 @@ pub returns-in-Err-Missed-clause-taken : goal.returns-in-Err-Missed-clause-taken
 returns-in-Err-Missed-clause-taken c =
     let r = c.args.self.now in
     let ts = r.law.dictionary.tables in
-    let cs : c.as_slice.result.now ≡ c.args.changes = c.as_slice.ensures.value ∙ c.into_items-changes.ensures in
+    let cs : c.as_slice.result.now ≡ c.args.changes = c.as_slice.ensures.value ∙ c.into_items-changes.ensures.same in
     let told = tells (effects (assembled ts r.tables) (kept_of c.args.skips.now ts r.n c.as_slice.result.now)) c.in-Err-Missed.field-0 c.in-Err-Missed.pos c.in-Err-Missed.table c.in-Err-Missed.miss c.in-Err-Missed.field-0-is c.in-Err-Missed.ensures.missed in
     misses c.args.skips.now c.args.scn c.args.changes (ahead_of r) ts r.tables (record { pos = c.in-Err-Missed.pos; table = c.in-Err-Missed.table; miss = c.in-Err-Missed.miss })
     (shown_whole r.whole ts r.tables c.requires.whole) (not_below c.args.self.now.made c.args.self.now.n c.if-self.false)
@@ -23,7 +23,7 @@ returns-then-not-branch-clause-taken c =
     let r = c.args.self.now in
     let ts = r.law.dictionary.tables in
     let ws = c.in-Ok.writes in
-    let cs : c.as_slice.result.now ≡ c.args.changes = c.as_slice.ensures.value ∙ c.into_items-changes.ensures in
+    let cs : c.as_slice.result.now ≡ c.args.changes = c.as_slice.ensures.value ∙ c.into_items-changes.ensures.same in
     let d : c.dict.result.now ≡ r.law.dictionary = c.dict.ensures.same in
     let told : c.in_ok-put_in.field-0 ≡ not (nat_lt live_row_limit (row_count (overlaid (assembled c.dict.result.now.tables r.tables) ws))) = c.in_ok-put_in.ensures.few in
     let many : not (nat_lt live_row_limit (row_count (overlaid (assembled ts r.tables) ws))) ≡ false =
@@ -44,7 +44,7 @@ returns-clause-taken c =
     let r = c.args.self.now in
     let ts = r.law.dictionary.tables in
     let ws = c.in-Ok.writes in
-    let cs : c.as_slice.result.now ≡ c.args.changes = c.as_slice.ensures.value ∙ c.into_items-changes.ensures in
+    let cs : c.as_slice.result.now ≡ c.args.changes = c.as_slice.ensures.value ∙ c.into_items-changes.ensures.same in
     let d : c.dict.result.now ≡ r.law.dictionary = c.dict.ensures.same in
     let told : c.in_ok-put_in.field-0 ≡ not (nat_lt live_row_limit (row_count (overlaid (assembled c.dict.result.now.tables r.tables) ws))) = c.in_ok-put_in.ensures.few in
     let few : not (nat_lt live_row_limit (row_count (overlaid (assembled ts r.tables) ws))) ≡ true =
