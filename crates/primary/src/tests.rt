@@ -1,7 +1,8 @@
 //! Small redos, built from their types: what their folds show, and why they end.
-ghost use Rattle.std.specs.Prelude.{◌≡◌, IsTrue, IfOk};
+ghost use Rattle.std.specs.Prelude.{◌≡◌, ◌+◌, ◌<◌, ◌≤◌, IsTrue, IfOk, OnOk, true};
 ghost use Rattle.redo_vec.specs.declared.columns.Kind.TheVariants.{Number};
 ghost use Rattle.redo_vec.specs.Forms.{is_line30};
+ghost use Rattle.primary.specs.Progress.{recs_of};
 
 use crate::{Evaluator, Folded, Plain, PlainTables, TakeFault, fold_plain};
 use redo_spec::Header;
@@ -392,67 +393,105 @@ fn row(alloc: Global, id: i64, code: Option<i64>) -> Result<Row, Fail> {
     }
 }
 
-// A fold over the row 5 of table 2, and over these rows.
-fn over_rows(alloc: Global, rows: &[Loaded]) -> Result<Evaluator, Fail> {
+// Row 5 in table 2, and these rows in table 1.
+fn rows_of(alloc: Global, rows: &[Loaded]) -> Result<PlainTables, Fail> {
     let mut tables = PlainTables::new(alloc);
     tables.put(2, row(alloc, 5, None)?, row(alloc, 5, None)?)?;
     for loaded in rows {
-        let key = row(alloc, loaded.key, None)?;
-        tables.put(1, key, row(alloc, loaded.id, loaded.code)?)?;
+        put_loaded(alloc, &mut tables, *loaded)?;
     }
+    Ok(tables)
+}
+
+fn put_loaded(alloc: Global, tables: &mut PlainTables, loaded: Loaded) -> Result<(), Fail> {
+    let key = row(alloc, loaded.key, None)?;
+    let row = row(alloc, loaded.id, loaded.code)?;
+    tables.put(1, key, row)?;
+    Ok(())
+}
+
+// A fold over them.
+fn over_rows(alloc: Global, rows: &[Loaded]) -> Result<Evaluator, Fail>
+    ensures first { IfOk result (λ fold. recs_of fold ≡ 0) }
+{
+    let tables = rows_of(alloc, rows)?;
     Ok(Evaluator::new(alloc, Plain::over(alloc, 1, 99, tables))?)
 }
 
-// T.B is table 1, and T.A table 2.
-fn two_tables(alloc: Global) -> Result<RedoRec, Fail> {
+fn takes(alloc: Global, fold: &mut Evaluator, taken: (Header, RedoRec)) -> Result<bool, TakeFault>
+    requires few { recs_of fold.old < 8 }
+    ensures records { OnOk result (recs_of fold.new ≤ recs_of fold.old + 1) }
+{
+    let (head, rec) = taken;
+    fold.take(&head, rec, &Skips::new(alloc))
+}
+
+// T.B is table 1.
+fn first_table(alloc: Global) -> Result<(Header, RedoRec), Fail> {
+    one(alloc, 100, Vector::Table(coded_table(alloc)?))
+}
+
+// T.A is table 2.
+fn second_table(alloc: Global) -> Result<(Header, RedoRec), Fail> {
     let mut other = table(alloc)?;
     other.id = 2;
-    let tables = two(
-        alloc,
-        100,
-        Vector::Table(coded_table(alloc)?),
-        Vector::Table(other),
-    )?;
-    Ok(tables.1)
+    two(alloc, 100, Vector::Table(other), Vector::DictEnd)
+}
+
+// Whether the fold goes on with the dictionary, whose rows it finds.
+fn goes_on(alloc: Global, fold: &mut Evaluator) -> Result<bool, Fail>
+    requires first { recs_of fold.old ≡ 0 }
+    ensures records { IfOk result (λ going. going ≡ true → recs_of fold.new ≤ 2) }
+{
+    let _ = takes(alloc, fold, first_table(alloc)?)?;
+    let last = second_table(alloc)?;
+    match takes(alloc, fold, last) {
+        Ok(going) => Ok(going),
+        Err(TakeFault::Unsound) => Ok(false),
+        Err(TakeFault::Memory) => Err(Fail::new("no memory")),
+    }
+}
+
+// The update of the row of ID 1 from code 7 to code 8, and its commit.
+fn updates(alloc: Global, fold: &mut Evaluator) -> Result<bool, Fail>
+    requires few { recs_of fold.old ≤ 2 }
+{
+    let change = coded_change(alloc, CODED[1])?;
+    let _ = takes(alloc, fold, two(alloc, 101, Vector::Start(FIRST), change)?)?;
+    let commit = one(alloc, 102, Vector::Commit(FIRST))?;
+    Ok(takes(alloc, fold, commit)?)
+}
+
+// The code of the first row of table 1.
+fn code_shown(shown: &Folded) -> Option<i64> {
+    let Some(row) = shown.tables.rows(1).next() else {
+        return None;
+    };
+    match row.values() {
+        [_, Value::Number(code)] => Some(*code),
+        _ => None,
+    }
 }
 
 #[test]
 fn rows_wait_for_the_dictionary(rt: HostRuntime) -> Result<(), Fail> {
     let alloc = rt.alloc();
-    let skips = Skips::new(alloc);
     let mut fold = over_rows(alloc, &[LOADED])?;
-    assert_eq!(rt; fold.take(&HEAD, two_tables(alloc)?, &skips)?, true);
-    let end = one(alloc, 100, Vector::DictEnd)?;
-    assert_eq!(rt; fold.take(&HEAD, end.1, &skips)?, true);
-    let mut recs = Vec::new(alloc);
-    transaction(alloc, &mut recs, CODED[1])?;
-    for (head, rec) in recs {
-        assert_eq!(rt; fold.take(&head, rec, &skips)?, true);
+    if !goes_on(alloc, &mut fold)? {
+        return Err(Fail::new("the rows are sound"));
     }
+    assert_eq!(rt; updates(alloc, &mut fold)?, true);
     let shown = fold.finish(Stop::Drained);
     assert_eq!(rt; shown.n, 1);
-    assert_eq!(rt; shown.tables.count(1), 1);
     assert_eq!(rt; shown.tables.count(2), 1);
-    let Some(found) = shown.tables.rows(1).next() else {
-        return Err(Fail::from("a row"));
-    };
-    let wanted = [Value::Number(1), Value::Number(8)];
-    let same = found.values() == wanted.as_slice();
-    assert_eq!(rt; same, true);
+    assert_eq!(rt; code_shown(&shown), Some(8));
     Ok(())
 }
 
-// Whether a fold goes on that finds this row beside the one of ID 1, when the dictionary ends.
+// Whether a fold goes on over this row, beside the one of ID 1.
 fn goes_on_over(alloc: Global, loaded: Loaded) -> Result<bool, Fail> {
-    let skips = Skips::new(alloc);
     let mut fold = over_rows(alloc, &[LOADED, loaded])?;
-    let _ = fold.take(&HEAD, two_tables(alloc)?, &skips)?;
-    let end = one(alloc, 100, Vector::DictEnd)?;
-    match fold.take(&HEAD, end.1, &skips) {
-        Ok(going) => Ok(going),
-        Err(TakeFault::Unsound) => Ok(false),
-        Err(TakeFault::Memory) => Err(Fail::new("no memory")),
-    }
+    goes_on(alloc, &mut fold)
 }
 
 #[test]
@@ -464,9 +503,9 @@ fn rows_that_are_no_sound_tables_are_told(rt: HostRuntime) -> Result<(), Fail> {
         ("another key", 3, Some(8), false),
         ("no code", 2, None, false),
     ];
-    for (name, key, code, goes_on) in cases {
+    for (name, key, code, sound) in cases {
         let loaded = Loaded { key, id: 2, code };
-        assert_eq!(rt; goes_on_over(alloc, loaded)?, goes_on, "{name}");
+        assert_eq!(rt; goes_on_over(alloc, loaded)?, sound, "{name}");
     }
     Ok(())
 }
