@@ -6,7 +6,6 @@
 
 #[cfg(test)]
 mod tests;
-mod unused;
 mod words;
 
 ghost use Rattle.std.specs.Prelude.{◌≡◌};
@@ -19,10 +18,9 @@ use file_ports::{FileArchive, StdSink, StdSource};
 use rl_base::Status;
 use rl_ports::{Archive, Sink, Source};
 use rl_value::Bytes;
-use standby::{Ended, refuse, sqlapply_still};
+use standby::{Ended, Unused, refuse, sqlapply_still};
 use std::alloc::Global;
 use std::process::ExitCode;
-use unused::Unused;
 use words::words_of;
 
 fn main(rt: HostRuntime) -> ExitCode {

@@ -1,11 +1,10 @@
 //! The words of the command line, also long ones; and a log in a file of the folder `redo`, longer than two blocks, folded by
 //! the top call.
-use crate::unused::Unused;
 use crate::words::words_of as words_in;
 use file_ports::{FileArchive, StdSource};
 use rl_mem::MemSink;
 use rl_value::Bytes;
-use standby::sqlapply_still;
+use standby::{Unused, sqlapply_still};
 use std::alloc::{AllocError, Global};
 use std::env::{Env, FillError};
 use std::fs;

@@ -16,9 +16,11 @@ mod say;
 mod still;
 #[cfg(test)]
 mod tests;
+mod unused;
 mod verdict_words;
 mod words;
 
 pub use ended::Ended;
 pub use say::refuse;
 pub use still::sqlapply_still;
+pub use unused::Unused;

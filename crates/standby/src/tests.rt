@@ -4,7 +4,8 @@
 ghost use Rattle.std.specs.Prelude.{None, Some, false, refl};
 
 use crate::still::sqlapply_still;
-use rl_ports::{Archive, Batch, Failed, Keeper, Pair, PortFault, Sink, Source, Spill};
+use crate::unused::Unused;
+use rl_ports::{Archive, Failed, Sink, Source};
 use rl_value::Bytes;
 use std::alloc::{AllocError, Global};
 use std::process::Abort;
@@ -173,10 +174,7 @@ impl Sink for Paper {
     }
 }
 
-/// A source, a spill store and a keeper that no command calls so far.
-#[derive(Drop)]
-struct Unused;
-
+// A source that no command calls so far.
 impl Source for Unused {
     ghost left = { λ _. None };
 
@@ -184,52 +182,6 @@ impl Source for Unused {
 
     fn read(&mut self, _into: &mut [u8]) -> Result<usize, Failed> {
         Ok(0)
-    }
-}
-
-impl Spill for Unused {
-    ghost tells = { false };
-
-    ghost chunks = { λ _. None };
-
-    ghost faults = { λ _. 0 };
-
-    ghost telling = { λ _. refl };
-
-    fn put(&mut self, _id: u64, _bytes: &[u8]) -> Result<(), PortFault> {
-        Err(PortFault::Memory)
-    }
-
-    fn get(&mut self, _id: u64, _into: &mut Vec<u8>) -> Result<(), PortFault> {
-        Err(PortFault::Memory)
-    }
-
-    fn drop_id(&mut self, _id: u64) -> Result<(), Failed> {
-        Ok(())
-    }
-
-    fn clear(&mut self) -> Result<(), Failed> {
-        Ok(())
-    }
-}
-
-impl Keeper for Unused {
-    ghost tells = { false };
-
-    ghost holds = { λ _. None };
-
-    ghost faults = { λ _. 0 };
-
-    ghost telling = { λ _. refl };
-
-    ghost lawful = { λ _. tt };
-
-    fn commit(&mut self, _batch: &Batch) -> Result<(), PortFault> {
-        Err(PortFault::Memory)
-    }
-
-    fn after(&mut self, _area: u8, _key: &[u8]) -> Result<Option<Pair>, PortFault> {
-        Ok(None)
     }
 }
 

@@ -1,4 +1,4 @@
-//! The spill store and the keeper of a program whose commands call neither of them yet.
+//! The spill store and the keeper of a caller whose commands call neither of them yet.
 //!
 //! They stand for files in `spill` and the durable store, which come with the commands that call them.
 ghost use Rattle.std.specs.Prelude.{None, false, refl};
