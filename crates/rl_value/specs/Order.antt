@@ -1,4 +1,5 @@
--- The order of values, texts, rows and keys. Each is total, and equal only where the two are the same.
+-- The order of values, texts, rows and keys, and of positions and transaction ids. Each is total, and equal only where the
+-- two are the same.
 -- Sets of keys are lists in this order.
 use Rattle.std.specs.Prelude.{◌∷◌, ℕ, Bool, true, ◌&&◌, List, [], ℤ, pos, nat_eq}
 use Rattle.std.specs.declared.cmp.Ordering.{Ordering}
@@ -7,8 +8,10 @@ use Rattle.std.specs.Cmp.{IsTotalOrder, on_total, then_total, nat_cmp_total, int
 use Rattle.std.specs.Cmp.Lexicographic.{slice_cmp, pointwise, nat_list_cmp_total, lists_total}
 use Rattle.std.specs.FinMap.Entries.{by_order}
 use Rattle.rl_value.specs.declared.key.Key.{Key}
+use Rattle.rl_value.specs.declared.pos.Pos.{Pos}
 use Rattle.rl_value.specs.declared.value.Value.{Value}
 use Rattle.rl_value.specs.declared.value.Value.TheVariants.{Null, Number, Text, Raw}
+use Rattle.rl_value.specs.declared.xid.Xid.{Xid}
 
 -- the bytes are the same
 abbrev pub same_bytes : List ℕ → List ℕ → Bool
@@ -66,6 +69,20 @@ key_cmp = then_cmp (on (λ k. k.table) nat_cmp) (then_cmp (on (λ k. k.index) na
 
 pub key_total : IsTotalOrder key_cmp
 key_total = then_total (on_total (λ k. k.table) nat_cmp_total) (then_total (on_total (λ k. k.index) nat_cmp_total) (on_total (λ k. k.values) row_total))
+
+-- by record, then by vector
+abbrev pub pos_cmp : Pos → Pos → Ordering
+pos_cmp = then_cmp (on (λ p. p.rec) nat_cmp) (on (λ p. p.vec) nat_cmp)
+
+pub pos_total : IsTotalOrder pos_cmp
+pos_total = then_total (on_total (λ p. p.rec) nat_cmp_total) (on_total (λ p. p.vec) nat_cmp_total)
+
+-- by undo segment, then by slot, then by sequence
+abbrev pub xid_cmp : Xid → Xid → Ordering
+xid_cmp = then_cmp (on (λ x. x.usn) nat_cmp) (then_cmp (on (λ x. x.slot) nat_cmp) (on (λ x. x.sqn) nat_cmp))
+
+pub xid_total : IsTotalOrder xid_cmp
+xid_total = then_total (on_total (λ x. x.usn) nat_cmp_total) (then_total (on_total (λ x. x.slot) nat_cmp_total) (on_total (λ x. x.sqn) nat_cmp_total))
 
 -- a key comes before the first of these
 abbrev pub is_below_first : Key → List Key → Bool

@@ -1,8 +1,9 @@
 //! Why a record of the redo is malformed, in four stages: the log's header, the cut of its bytes into records,
 //! the decoding of a record, and what may follow the records before it.
 //!
-//! Within a stage the first fault in the order of its tests is told: header_fault, record_fault (redo_spec), first_record and
-//! record_at (redo_vec). The variants stand roughly in that order.
+//! Within a stage the first fault in the order of its tests is told. The tests stand in header_fault, first_record, record_at
+//! and record_fault of redo_vec and redo_spec, a stage each. The variants stand in the order in which they are tested; those
+//! of VecFault do not, since a record is tested field by field. A variant that is tested twice stands at its first test.
 
 ghost use Rattle.std.specs.Prelude.{◌≡◌, ◌<◌, IfOk};
 
@@ -36,12 +37,13 @@ pub enum HeadFault {
 /// Why bytes behind the header are not cut into records.
 #[derive(Clone, Copy, Debug, PartialEq, Eq)]
 pub enum CutFault {
+    /// The log ends inside a record, or before the last one. It is tested for the record's length, and again, behind `Length`,
+    /// for the whole record.
+    Truncated,
     /// The record's length is outside its limits.
     Length,
     /// The record's count of vectors is not 1 to 255.
     Count,
-    /// The log ends inside a record, or before the last one.
-    Truncated,
     /// Bytes follow the log's last record.
     Trailing,
 }
@@ -65,7 +67,10 @@ pub enum VecFault {
     End,
 }
 
-/// Why a decoded record may not follow those before it.
+/// Why a decoded record may not follow those before it. `Chain`, `Scn` and `Alone` are of the record as a whole, and
+/// `Dictionary` of where a vector stands. The others are of one kind of vector: TABLE up to `Limit`, START `OpenTwice`, a change,
+/// UNDO, COMMIT and ROLLBACK `NotOpen`, a change from `NoTable` to `OpenLimit`, UNDO `Nothing`. A COMMIT has `Scn` again, behind
+/// `NotOpen`.
 #[derive(Debug, Drop)]
 pub enum LawFault {
     /// The log does not begin at the SCN at which the one before it ends.
@@ -98,10 +103,10 @@ pub enum LawFault {
     Supplement,
     /// A change touches a key that another open transaction holds by a surviving change: the least such key, and its holder.
     Lock { key: Key, holder: Xid },
-    /// An UNDO finds no change to take back.
-    Nothing,
     /// The open transactions have too many surviving changes.
     OpenLimit,
+    /// An UNDO finds no change to take back.
+    Nothing,
 }
 
 /// Why a record of the redo is malformed.
@@ -145,8 +150,8 @@ impl LawFault {
                     holder: *holder,
                 })
             }
-            LawFault::Nothing => Ok(LawFault::Nothing),
             LawFault::OpenLimit => Ok(LawFault::OpenLimit),
+            LawFault::Nothing => Ok(LawFault::Nothing),
         }
     }
 }
