@@ -10,6 +10,7 @@ ghost use Rattle.redo_vec.specs.declared.redo_rec.RedoRec.{RedoRec};
 use crate::encoding_changes::put_change;
 use crate::encoding_fields::{put_u16, put_u32, put_u64, put_xid};
 use crate::encoding_tables::put_table;
+use crate::limits::MAX_RECORD;
 use crate::redo_rec::RedoRec;
 use crate::vector::Vector;
 use rl_value::{NoMemory, Xid};
@@ -49,7 +50,7 @@ fn put_vectors(out: &mut Vec<u8>, items: &[Vector]) -> Result<(), AllocError>
 }
 
 fn spelled(alloc: Global, rec: &RedoRec) -> Result<Vec<u8>, AllocError>
-    requires { length (record_bytes rec.now) ≤ 65536 }
+    requires { length (record_bytes rec.now) ≤ MAX_RECORD }
     ensures { IfOk result (λ bytes. bytes.items ≡ record_bytes rec.now) }
 {
     let vectors = rec.vectors.items();
@@ -63,9 +64,9 @@ fn spelled(alloc: Global, rec: &RedoRec) -> Result<Vec<u8>, AllocError>
     Ok(out)
 }
 
-/// Spells a record, whose spelling has at most 65,536 bytes.
+/// Spells a record, whose spelling has at most `MAX_RECORD` bytes.
 pub fn encode_record(alloc: Global, rec: &RedoRec) -> Result<Vec<u8>, NoMemory>
-    requires fits { length (record_bytes rec.now) ≤ 65536 }
+    requires fits { length (record_bytes rec.now) ≤ MAX_RECORD }
     ensures spelled { IfOk result (λ bytes. bytes.items ≡ record_bytes rec.now) }
 {
     match spelled(alloc, rec) {

@@ -41,6 +41,10 @@ stopped fault p bytes = record { raws = []; place = p; left = left_after (told_o
 abbrev pub with_raw : Raw → Cut → Cut
 with_raw raw c = record { raws = raw ∷ c.raws; place = c.place; left = c.left; cause = c.cause }
 
+-- the same behind records that were cut off before
+abbrev pub with_raws : List Raw → Cut → Cut
+with_raws before c = record { raws = before ++ c.raws; place = c.place; left = c.left; cause = c.cause }
+
 abbrev pub cut_or : Result (List ℕ × List ℕ) CutFault → LogPlace → List ℕ → (List ℕ → List ℕ → Cut) → Cut
 cut_or (Err fault) p bytes next = stopped fault p bytes
 cut_or (Ok found) p bytes next = next found.0 found.1

@@ -2,13 +2,14 @@
 //!
 //! The first fault in byte order is the one that is answered, and after it nothing more is given. Bytes of a
 //! record that is not whole wait for the next piece: 65,535 of them at most. What a piece costs is linear in its
-//! bytes and in those of the records that it completes: waiting bytes are moved only when a record has ended in the
-//! piece.
-ghost use Rattle.std.specs.Prelude.{◌≡◌, ◌+◌, ◌-◌, ◌*◌, ◌≤◌, ◌<◌, ◌^◌, length, drop, IfOk, OnOk, OnErr};
+//! bytes and in those of the records that it completes. A record that stands whole in a piece is copied once, from there
+//! to where it is kept; only one that two pieces share is put together first.
+ghost use Rattle.std.specs.Prelude.{◌≡◌, ◌+◌, ◌-◌, ◌*◌, ◌≤◌, ◌<◌, ◌^◌, [], length, None, IfOk, OnOk, OnErr};
 ghost use Rattle.redo_wire.specs.Records.{AreFramed};
-ghost use Rattle.redo_wire.specs.Stream.{begun, given, fed, left_after, end_fault};
+ghost use Rattle.redo_wire.specs.Stream.{begun, given, fed, end_fault};
 
-use crate::cutting::{LogPlace, Taken, taken_off};
+use crate::cutting::{LogPlace, Taken, is_front, taken_behind};
+use crate::numbers::byte_in;
 use crate::raw::{Fed, Raws};
 use redo_spec::Header;
 use rl_value::{CutFault, NoMemory};
@@ -34,25 +35,43 @@ impl Model for Cutter {
     ghost invariant = { λ c. IsReady c.head c.place };
 }
 
-// Takes so many bytes from the front, and after a fault all. After a refusal they are as they were.
-fn keep(bytes: &mut Vec<u8>, used: usize, cause: Option<CutFault>) -> Result<(), NoMemory>
-    requires { used ≤ length bytes.old.items }
-    ensures ok { OnOk result (bytes.new.items ≡ left_after cause (drop used bytes.old.items)) }
-    ensures unchanged { OnErr result (bytes.new.items ≡ bytes.old.items) }
+fn byte_across(front: &[u8], rest: &[u8], at: usize) -> u8 {
+    if at < front.len() {
+        front[at]
+    } else {
+        byte_in(rest, at - front.len())
+    }
+}
+
+// How many bytes of the piece the record that begins in the waiting ones lacks, by the length in its first four bytes. Where
+// none wait it lacks none. What is given does not depend on this number; it says which bytes are copied twice.
+fn lacking(waiting: &[u8], piece: &[u8]) -> usize
+    ensures { result ≤ length piece.now }
 {
-    if cause.is_some() {
-        bytes.clear();
-        return Ok(());
+    if waiting.is_empty() {
+        return 0;
     }
-    if used == 0 {
-        return Ok(());
+    let size = u32::from_be_bytes([
+        byte_across(waiting, piece, 0),
+        byte_across(waiting, piece, 1),
+        byte_across(waiting, piece, 2),
+        byte_across(waiting, piece, 3),
+    ]) as usize;
+    let lacks = size.saturating_sub(waiting.len());
+    if lacks < piece.len() {
+        lacks
+    } else {
+        piece.len()
     }
-    match Vec::from_slice(*bytes.allocator(), &bytes[used..]) {
-        Ok(rest) => {
-            *bytes = rest;
-            Ok(())
-        }
-        Err(_) => Err(NoMemory),
+}
+
+fn nothing(alloc: Global) -> Fed
+    ensures raws { result.raws ≡ [] }
+    ensures cause { result.cause ≡ None }
+{
+    Fed {
+        raws: Raws::of(Vec::new(alloc)),
+        cause: None,
     }
 }
 
@@ -85,29 +104,28 @@ impl Cutter {
     {
         let alloc = *self.left.allocator();
         if self.fault_told {
-            return Ok(Fed {
-                raws: Raws::of(Vec::new(alloc)),
-                cause: None,
-            });
+            return Ok(nothing(alloc));
         }
         let waiting = self.left.len();
-        if self.left.extend_from_slice(piece).is_err() {
+        let lacks = lacking(&self.left, piece);
+        let (front, rest) = piece.split_at(lacks);
+        if self.left.extend_from_slice(front).is_err() {
             return Err(NoMemory);
         }
-        match taken_off(alloc, self.head, self.place, &self.left) {
+        if rest.is_empty() && is_front(self.head, self.place, &self.left) {
+            return Ok(nothing(alloc));
+        }
+        match taken_behind(alloc, self.head, self.place, &self.left, rest) {
             Ok(
                 Taken {
                     raws,
                     place,
-                    used,
+                    left,
                     cause,
                 },
             ) => {
-                if keep(&mut self.left, used, cause).is_err() {
-                    self.left.truncate(waiting);
-                    return Err(NoMemory);
-                }
                 self.place = place;
+                self.left = left;
                 self.fault_told = cause.is_some();
                 Ok(Fed {
                     raws: Raws::of(raws),

@@ -3,7 +3,7 @@ ghost use Rattle.std.specs.Prelude.{◌≡◌, drop, slice_index};
 ghost use Rattle.std.specs.Int.{w16, w32, w64};
 ghost use Rattle.redo_vec.specs.Cutting.{number_in};
 
-fn byte_in(bytes: &[u8], at: usize) -> u8
+pub(crate) fn byte_in(bytes: &[u8], at: usize) -> u8
     ensures { result ≡ slice_index bytes.now at }
 {
     if at < bytes.len() { bytes[at] } else { 0 }
