@@ -5,7 +5,7 @@
 
 ghost use Rattle.std.specs.Prelude.{◌≡◌, ◌<◌, ◌⊎◌, ℕ, Option, Bool, IsTrue, is_some, IfOk, OnOk, Some, IsErrOf};
 ghost use Rattle.std.specs.Option.{option_map};
-ghost use Rattle.rl_ports.specs.Faults.{HasPortCause, Told};
+ghost use Rattle.rl_ports.specs.Faults.{HasPortCause, NoneCounted, UnlessFailed, Told};
 ghost use Rattle.rl_ports.specs.Store.{Store, is_store, have_keys, after_batch, next_pair};
 ghost use Rattle.rl_ports.specs.declared.fault.PortFault.TheVariants.{Failed as PortFailed, Memory};
 
@@ -20,6 +20,9 @@ pub trait Keeper {
     /// The pairs, where they are told.
     ghost holds: { Self → Option Store };
 
+    /// Whether the count of devices of this type rises at failures alone.
+    ghost counts_failures_alone: { Bool };
+
     /// How often a call failed.
     ghost faults: { Self → ℕ };
 
@@ -30,6 +33,7 @@ pub trait Keeper {
         ensures done { Told (holds self.old) (λ old. OnOk result (holds self.new ≡ Some (after_batch batch.now old))) }
         ensures failed { Told (holds self.old) (λ old. IsErrOf result PortFailed → (holds self.new ≡ Some old) ⊎ (holds self.new ≡ Some (after_batch batch.now old))) }
         ensures memory { IsErrOf result Memory → holds self.new ≡ holds self.old }
+        ensures alone { UnlessFailed result (NoneCounted counts_failures_alone (faults self.old) (faults self.new)) }
         ensures cause { HasPortCause (faults self.old) (faults self.new) result };
 
     /// The pair of the least key of the area above this one, or None where there is none. Above the key of no
@@ -37,6 +41,7 @@ pub trait Keeper {
     fn after(&mut self, area: u8, key: &[u8]) -> Result<Option<Pair>, PortFault>
         ensures next { Told (holds self.old) (λ old. IfOk result (λ found. option_map (λ p. ((area, p.key), p.value)) found ≡ next_pair area key.now old)) }
         ensures same { holds self.new ≡ holds self.old }
+        ensures alone { UnlessFailed result (NoneCounted counts_failures_alone (faults self.old) (faults self.new)) }
         ensures cause { HasPortCause (faults self.old) (faults self.new) result };
 
     ghost telling: { (keeper : Self) → is_some (holds keeper) ≡ tells };

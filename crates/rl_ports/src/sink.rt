@@ -2,10 +2,10 @@
 //!
 //! A sink may tell the bytes written. A write that is refused adds none.
 
-ghost use Rattle.std.specs.Prelude.{◌<◌, List, ℕ, Option};
+ghost use Rattle.std.specs.Prelude.{◌<◌, List, ℕ, Option, Bool, IfOk};
 ghost use Rattle.std.specs.Io.{WritesAtMost};
 ghost use Rattle.std.specs.Io.KnownBytes.{WriteAppends};
-ghost use Rattle.rl_ports.specs.Faults.{HasCause, CountsNothing};
+ghost use Rattle.rl_ports.specs.Faults.{HasCause, CountsNothing, NoneCounted, TookSome};
 
 use crate::fault::Failed;
 
@@ -13,6 +13,9 @@ use crate::fault::Failed;
 pub trait Sink {
     /// The bytes written, where they are told.
     ghost written: { Self → Option (List ℕ) };
+
+    /// Whether the count of devices of this type rises at failures alone.
+    ghost counts_failures_alone: { Bool };
 
     /// How often a call failed, or took nothing of a piece that had a byte.
     ghost faults: { Self → ℕ };
@@ -23,5 +26,6 @@ pub trait Sink {
         ensures bound { WritesAtMost result from.now }
         ensures bytes { WriteAppends (written self.old) (written self.new) result from.now }
         ensures nothing { CountsNothing (faults self.old) (faults self.new) result from.now }
+        ensures alone { IfOk result (λ count. TookSome from.now count → NoneCounted counts_failures_alone (faults self.old) (faults self.new)) }
         ensures cause { HasCause (faults self.old) (faults self.new) result };
 }
