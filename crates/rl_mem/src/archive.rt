@@ -1,10 +1,10 @@
 //! Archives over logs in memory.
 
-ghost use Rattle.std.specs.Prelude.{◌≡◌, ◌↔◌, ◌<◌, ◌≤◌, [], length, List, ℕ, Some, true, refl, IsTrue, IsErr, IfOk, OnOk, OnErr};
+ghost use Rattle.std.specs.Prelude.{if◌then◌else◌, ◌&&◌, is_some, ◌≡◌, ◌↔◌, ◌<◌, ◌≤◌, [], length, List, ℕ, None, Some, true, refl, IsTrue, IsErr, IfOk, OnOk, OnErr};
 ghost use Rattle.std.specs.Option.{option_map, option_copied};
 ghost use Rattle.std.specs.Io.{ReadsAtMost};
-ghost use Rattle.rl_ports.specs.Faults.{HasCause, ReadsFrom, ReadsLog};
-ghost use Rattle.rl_mem.specs.Calls.{uncalled, fails_next, called};
+ghost use Rattle.rl_ports.specs.Faults.{HasCause, NoneCounted, ReadsFrom, ReadsLog, ReadsNothing};
+ghost use Rattle.rl_mem.specs.Calls.{uncalled, fails_next, called, passed};
 ghost use Rattle.rl_mem.specs.Devices.{under, with_one};
 
 use crate::calls::Calls;
@@ -70,6 +70,7 @@ impl SureArchive {
     fn read_log(&self, seq: u32, at: u64, into: &mut [u8]) -> usize
         ensures bound { result ≤ length into.new }
         ensures bytes { ReadsFrom (under self.now seq) at into.new result }
+        ensures absent { under self.now seq ≡ None → result ≡ 0 }
     {
         match self.log(seq) {
             None => 0,
@@ -82,6 +83,8 @@ impl Archive for SureArchive {
     ghost tells = { true };
 
     ghost logs = { λ a. Some (under a) };
+
+    ghost counts_failures_alone = { true };
 
     ghost faults = { λ a. 0 };
 
@@ -138,6 +141,8 @@ impl Archive for MemArchive {
 
     ghost logs = { λ a. Some (under a.held) };
 
+    ghost counts_failures_alone = { true };
+
     ghost faults = { λ a. a.calls.faults };
 
     ghost telling = { λ a. refl };
@@ -148,6 +153,7 @@ impl Archive for MemArchive {
         ensures held { self.new.held ≡ self.old.held }
         ensures length { IfOk result (λ found. found ≡ option_map length (under self.old.held seq)) }
         ensures same { Some (under self.new.held) ≡ Some (under self.old.held) }
+        ensures alone { OnOk result (NoneCounted true self.old.calls.faults self.new.calls.faults) }
         ensures cause { HasCause self.old.calls.faults self.new.calls.faults result }
     {
         if self.calls.next() {
@@ -156,15 +162,22 @@ impl Archive for MemArchive {
         Ok(self.archive.log_length(seq))
     }
 
+    /// A read of a log that is not there is a call, and doesn't fail even where it is told to.
     fn read(&mut self, seq: u32, at: u64, into: &mut [u8]) -> Result<usize, Failed>
-        ensures fails { IsErr result ↔ IsTrue (fails_next self.old.calls) }
-        ensures counted { self.new.calls ≡ called self.old.calls }
+        ensures fails { IsErr result ↔ IsTrue (is_some (under self.old.held seq) && fails_next self.old.calls) }
+        ensures counted { self.new.calls ≡ (if is_some (under self.old.held seq) then called self.old.calls else passed self.old.calls) }
         ensures held { self.new.held ≡ self.old.held }
         ensures bound { ReadsAtMost result into.new }
         ensures bytes { IfOk result (ReadsFrom (under self.old.held seq) at into.new) }
+        ensures absent { ReadsNothing (under self.old.held seq) result self.old.calls.faults self.new.calls.faults }
         ensures same { Some (under self.new.held) ≡ Some (under self.old.held) }
+        ensures alone { OnOk result (NoneCounted true self.old.calls.faults self.new.calls.faults) }
         ensures cause { HasCause self.old.calls.faults self.new.calls.faults result }
     {
+        if self.archive.log(seq).is_none() {
+            self.calls.pass();
+            return Ok(0);
+        }
         if self.calls.next() {
             return Err(Failed);
         }

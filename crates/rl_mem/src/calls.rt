@@ -2,7 +2,7 @@
 
 ghost use Rattle.std.specs.Prelude.{◌≡◌, ◌<◌, ◌^◌, if◌then◌else◌, ◌==◌};
 ghost use Rattle.std.specs.List.{list_any};
-ghost use Rattle.rl_mem.specs.Calls.{uncalled, fails_next, called, faulted, one_more};
+ghost use Rattle.rl_mem.specs.Calls.{uncalled, fails_next, called, faulted, passed, one_more};
 
 use std::marker::Model;
 
@@ -44,6 +44,20 @@ impl Calls {
         self.made = number;
         self.faults = counted(self.faults, fails);
         fails
+    }
+
+    /// Whether the next call is to fail.
+    pub fn fails_next(&self) -> bool
+        ensures { result ≡ fails_next self.now }
+    {
+        names(&self.fails, self.made.saturating_add(1))
+    }
+
+    /// Counts a call that is not to fail, whatever its number is.
+    pub fn pass(&mut self)
+        ensures counted { self.new ≡ passed self.old }
+    {
+        self.made = self.made.saturating_add(1);
     }
 
     /// Counts a failure of the call that was counted last.

@@ -3,11 +3,11 @@
 //! A commit copies its batch and takes room for all of its rows first, so that nothing of it is done where memory
 //! wants.
 
-ghost use Rattle.std.specs.Prelude.{◌≡◌, ◌<◌, ◌⊎◌, [], Some, true, refl, IsTrue, IsErr, IsErrOf, IfOk, OnOk, OnErr, if◌then◌else◌};
+ghost use Rattle.std.specs.Prelude.{◌≡◌, ◌<◌, ◌^◌, ◌⊎◌, [], Some, true, refl, IsTrue, IsErr, IsErrOf, IfOk, OnOk, OnErr, if◌then◌else◌};
 ghost use Rattle.std.specs.Option.{option_map};
-ghost use Rattle.rl_ports.specs.Faults.{HasPortCause};
+ghost use Rattle.rl_ports.specs.Faults.{HasPortCause, NoneCounted, UnlessFailed};
 ghost use Rattle.rl_ports.specs.Store.{is_store, have_keys, after_batch, next_pair};
-ghost use Rattle.rl_mem.specs.Calls.{uncalled, fails_next, called};
+ghost use Rattle.rl_mem.specs.Calls.{uncalled, fails_next, called, passed, UnlessMemory};
 
 use crate::calls::Calls;
 use crate::rows::{Row, do_items, pair_after};
@@ -59,6 +59,8 @@ impl Keeper for SureKeeper {
 
     ghost holds = { λ k. Some k.rows.items };
 
+    ghost counts_failures_alone = { true };
+
     ghost faults = { λ k. 0 };
 
     ghost telling = { λ k. refl };
@@ -105,18 +107,23 @@ impl MemKeeper {
         }
     }
 
-    /// A commit that fails.
+    /// A commit that is told to fail. Want of memory for what it keeps is no failure.
     fn fail(&mut self, batch: &Batch) -> Result<(), PortFault>
         requires keys { IsTrue (have_keys batch.now) }
+        requires named { IsTrue (fails_next (calls_of self.old)) }
         ensures refused { IsErr result }
         ensures kept { IsErrOf result PortFault.Failed → pairs_in self.new ≡ (if keeps_of self.old then after_batch batch.now (pairs_in self.old) else pairs_in self.old) }
         ensures memory { IsErrOf result PortFault.Memory → pairs_in self.new ≡ pairs_in self.old }
-        ensures calls { calls_of self.new ≡ calls_of self.old }
+        ensures counted { UnlessMemory result (calls_of self.new ≡ called (calls_of self.old)) }
+        ensures memory_counted { IsErrOf result PortFault.Memory → calls_of self.new ≡ passed (calls_of self.old) }
+        ensures within { IsErrOf result PortFault.Failed → (calls_of self.old).faults < 2 ^ 64 }
         ensures keeps { keeps_of self.new ≡ keeps_of self.old }
     {
         if self.keeps && self.keeper.do_batch(batch).is_err() {
+            self.calls.pass();
             return Err(PortFault::Memory);
         }
+        let _ = self.calls.next();
         Err(PortFault::Failed)
     }
 }
@@ -127,6 +134,8 @@ impl Keeper for MemKeeper {
     ghost tells = { true };
 
     ghost holds = { λ k. Some k.keeper.rows.items };
+
+    ghost counts_failures_alone = { true };
 
     ghost faults = { λ k. k.calls.faults };
 
@@ -142,13 +151,16 @@ impl Keeper for MemKeeper {
         ensures memory { IsErrOf result PortFault.Memory → Some (pairs_in self.new) ≡ Some (pairs_in self.old) }
         ensures fails_only_named { IsErrOf result PortFault.Failed → IsTrue (fails_next (calls_of self.old)) }
         ensures named_is_refused { IsTrue (fails_next (calls_of self.old)) → IsErr result }
-        ensures counted { calls_of self.new ≡ called (calls_of self.old) }
+        ensures counted { UnlessMemory result (calls_of self.new ≡ called (calls_of self.old)) }
+        ensures memory_counted { IsErrOf result PortFault.Memory → calls_of self.new ≡ passed (calls_of self.old) }
         ensures keeps { keeps_of self.new ≡ keeps_of self.old }
+        ensures alone { UnlessFailed result (NoneCounted true (calls_of self.old).faults (calls_of self.new).faults) }
         ensures cause { HasPortCause (calls_of self.old).faults (calls_of self.new).faults result }
     {
-        if self.calls.next() {
+        if self.calls.fails_next() {
             return self.fail(batch);
         }
+        self.calls.pass();
         match self.keeper.do_batch(batch) {
             Ok(()) => Ok(()),
             Err(NoMemory) => Err(PortFault::Memory),
@@ -162,6 +174,7 @@ impl Keeper for MemKeeper {
         ensures named_is_refused { IsTrue (fails_next (calls_of self.old)) → IsErrOf result PortFault.Failed }
         ensures counted { calls_of self.new ≡ called (calls_of self.old) }
         ensures keeps { keeps_of self.new ≡ keeps_of self.old }
+        ensures alone { UnlessFailed result (NoneCounted true (calls_of self.old).faults (calls_of self.new).faults) }
         ensures cause { HasPortCause (calls_of self.old).faults (calls_of self.new).faults result }
     {
         if self.calls.next() {

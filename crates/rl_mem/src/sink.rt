@@ -2,10 +2,10 @@
 //!
 //! It has no twin that never fails, since a write has no answer for want of memory.
 
-ghost use Rattle.std.specs.Prelude.{not, nat_lt, if◌then◌else◌, ◌&&◌, ◌≡◌, ◌↔◌, ◌⊎◌, ◌+◌, ◌<◌, ◌≤◌, [], length, List, ℕ, Some, IsTrue, IsErr, IfOk};
+ghost use Rattle.std.specs.Prelude.{not, nat_lt, if◌then◌else◌, ◌&&◌, ◌≡◌, ◌↔◌, ◌⊎◌, ◌+◌, ◌<◌, ◌≤◌, [], length, List, ℕ, Some, true, IsTrue, IsErr, IfOk};
 ghost use Rattle.std.specs.Io.{WritesAtMost};
 ghost use Rattle.std.specs.Io.KnownBytes.{WriteAppends};
-ghost use Rattle.rl_ports.specs.Faults.{HasCause, CountsNothing};
+ghost use Rattle.rl_ports.specs.Faults.{HasCause, CountsNothing, NoneCounted, TookSome};
 ghost use Rattle.rl_mem.specs.Calls.{called, faulted, uncalled, fails_next};
 
 use crate::calls::Calls;
@@ -61,6 +61,8 @@ impl MemSink {
 impl Sink for MemSink {
     ghost written = { λ s. Some s.bytes };
 
+    ghost counts_failures_alone = { true };
+
     ghost faults = { λ s. s.calls.faults };
 
     /// Takes the whole piece, or fails and takes nothing.
@@ -73,6 +75,7 @@ impl Sink for MemSink {
         ensures bound { WritesAtMost result from.now }
         ensures bytes { WriteAppends (Some self.old.bytes) (Some self.new.bytes) result from.now }
         ensures nothing { CountsNothing self.old.calls.faults self.new.calls.faults result from.now }
+        ensures alone { IfOk result (λ count. TookSome from.now count → NoneCounted true self.old.calls.faults self.new.calls.faults) }
         ensures cause { HasCause self.old.calls.faults self.new.calls.faults result }
     {
         if self.calls.next() {

@@ -1,9 +1,9 @@
 //! Sources over bytes in memory.
 
-ghost use Rattle.std.specs.Prelude.{◌≡◌, ◌↔◌, ◌<◌, List, ℕ, Some, IsTrue, IsErr};
+ghost use Rattle.std.specs.Prelude.{◌≡◌, ◌↔◌, ◌<◌, List, ℕ, Some, true, IsTrue, IsErr, OnOk};
 ghost use Rattle.std.specs.Io.{ReadsAtMost};
 ghost use Rattle.std.specs.Io.KnownBytes.{ReadConsumes};
-ghost use Rattle.rl_ports.specs.Faults.{HasCause};
+ghost use Rattle.rl_ports.specs.Faults.{HasCause, NoneCounted};
 ghost use Rattle.rl_mem.specs.Calls.{uncalled, fails_next, called};
 
 use crate::calls::Calls;
@@ -39,6 +39,8 @@ impl SureSource {
 
 impl Source for SureSource {
     ghost left = { λ s. Some s };
+
+    ghost counts_failures_alone = { true };
 
     ghost faults = { λ s. 0 };
 
@@ -82,6 +84,8 @@ impl MemSource {
 impl Source for MemSource {
     ghost left = { λ s. Some s.bytes };
 
+    ghost counts_failures_alone = { true };
+
     ghost faults = { λ s. s.calls.faults };
 
     fn read(&mut self, into: &mut [u8]) -> Result<usize, Failed>
@@ -89,6 +93,7 @@ impl Source for MemSource {
         ensures counted { self.new.calls ≡ called self.old.calls }
         ensures bound { ReadsAtMost result into.new }
         ensures bytes { ReadConsumes (Some self.old.bytes) (Some self.new.bytes) result into.new }
+        ensures alone { OnOk result (NoneCounted true self.old.calls.faults self.new.calls.faults) }
         ensures cause { HasCause self.old.calls.faults self.new.calls.faults result }
     {
         if self.calls.next() {

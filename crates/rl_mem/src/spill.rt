@@ -2,7 +2,7 @@
 
 ghost use Rattle.std.specs.Prelude.{◌≡◌, ◌↔◌, ◌<◌, [], List, ℕ, Some, true, refl, IsTrue, IsSome, IsErr, IsErrOf, OnOk, OnErr};
 ghost use Rattle.std.specs.Option.{option_copied};
-ghost use Rattle.rl_ports.specs.Faults.{HasCause, HasPortCause};
+ghost use Rattle.rl_ports.specs.Faults.{HasCause, HasPortCause, NoneCounted, UnlessFailed};
 ghost use Rattle.rl_ports.specs.Store.{chunk_of, with_chunk, without};
 ghost use Rattle.rl_mem.specs.Calls.{uncalled, fails_next, called};
 
@@ -51,6 +51,8 @@ impl Spill for SureSpill {
     ghost tells = { true };
 
     ghost chunks = { λ s. Some s };
+
+    ghost counts_failures_alone = { true };
 
     ghost faults = { λ s. 0 };
 
@@ -125,6 +127,8 @@ impl Spill for MemSpill {
 
     ghost chunks = { λ s. Some s.held };
 
+    ghost counts_failures_alone = { true };
+
     ghost faults = { λ s. s.calls.faults };
 
     ghost telling = { λ s. refl };
@@ -134,6 +138,7 @@ impl Spill for MemSpill {
         ensures counted { self.new.calls ≡ called self.old.calls }
         ensures put { OnOk result (Some self.new.held ≡ Some (with_chunk id bytes.now self.old.held)) }
         ensures unchanged { OnErr result (Some self.new.held ≡ Some self.old.held) }
+        ensures alone { UnlessFailed result (NoneCounted true self.old.calls.faults self.new.calls.faults) }
         ensures cause { HasPortCause self.old.calls.faults self.new.calls.faults result }
     {
         if self.calls.next() {
@@ -148,6 +153,7 @@ impl Spill for MemSpill {
         ensures counted { self.new.calls ≡ called self.old.calls }
         ensures got { OnOk result (chunk_of self.old.held id ≡ Some into.new.items) }
         ensures same { Some self.new.held ≡ Some self.old.held }
+        ensures alone { UnlessFailed result (NoneCounted true self.old.calls.faults self.new.calls.faults) }
         ensures cause { HasPortCause self.old.calls.faults self.new.calls.faults result }
     {
         if self.calls.next() {
@@ -161,6 +167,7 @@ impl Spill for MemSpill {
         ensures counted { self.new.calls ≡ called self.old.calls }
         ensures dropped { OnOk result (Some self.new.held ≡ Some (without id self.old.held)) }
         ensures unchanged { OnErr result (Some self.new.held ≡ Some self.old.held) }
+        ensures alone { OnOk result (NoneCounted true self.old.calls.faults self.new.calls.faults) }
         ensures cause { HasCause self.old.calls.faults self.new.calls.faults result }
     {
         if self.calls.next() {
@@ -174,6 +181,7 @@ impl Spill for MemSpill {
         ensures counted { self.new.calls ≡ called self.old.calls }
         ensures cleared { OnOk result (Some self.new.held ≡ Some []) }
         ensures unchanged { OnErr result (Some self.new.held ≡ Some self.old.held) }
+        ensures alone { OnOk result (NoneCounted true self.old.calls.faults self.new.calls.faults) }
         ensures cause { HasCause self.old.calls.faults self.new.calls.faults result }
     {
         if self.calls.next() {

@@ -44,7 +44,7 @@ fn a_sink_takes_what_it_has_room_for(rt: HostRuntime) -> Result<(), Fail> {
 #[test]
 fn logs_are_found_by_their_sequences(rt: HostRuntime) -> Result<(), Fail> {
     let alloc = rt.alloc();
-    let mut archive = MemArchive::new(alloc, vec![in alloc; 3]?);
+    let mut archive = MemArchive::new(alloc, vec![in alloc; 3, 5]?);
     archive.put_log(7, vec![in alloc; 1, 2, 3]?)?;
     assert_eq!(rt; archive.length(7), Ok(Some(3)));
     let mut into = [0; 4];
@@ -52,6 +52,8 @@ fn logs_are_found_by_their_sequences(rt: HostRuntime) -> Result<(), Fail> {
     assert_eq!(rt; into[0], 3);
     assert_eq!(rt; archive.length(7), Err(Failed));
     assert_eq!(rt; archive.length(8), Ok(None));
+    // This call is told to fail, and doesn't: there is nothing to read.
+    assert_eq!(rt; archive.read(8, 0, &mut into), Ok(0));
     let mut sure = SureArchive::new(alloc);
     sure.put_log(8, vec![in alloc; 9]?)?;
     sure.put_log(7, vec![in alloc; 4, 5]?)?;
