@@ -1,10 +1,12 @@
 //! Reads a source to its end, or to one byte more than is allowed.
 
-ghost use Rattle.std.specs.Prelude.{◌≡◌, ◌<◌, ◌≤◌, ◌+◌, length, take, drop, IfOk, OnOk, OnErr, Some, IsErrOf};
-ghost use Rattle.rl_ports.specs.Faults.{Rose, Told};
+ghost use Rattle.std.specs.Prelude.{◌≡◌, ◌≢◌, ◌<◌, ◌≤◌, ◌+◌, length, take, drop, IfOk, OnOk, OnErr, Some, Err, IsErrOf};
+ghost use Rattle.std.specs.Io.{ReadsAtMost};
+ghost use Rattle.std.specs.Io.KnownBytes.{ReadConsumes};
+ghost use Rattle.rl_ports.specs.Faults.{HasCause, NoneCounted, Rose, Told};
 ghost use Rattle.rl_text.specs.Written.{ConsumesFront};
 
-use rl_ports::Source;
+use rl_ports::{Failed, Source};
 use std::alloc::Global;
 
 /// How many bytes are asked for at a time.
@@ -19,6 +21,16 @@ pub enum ReadFault {
     Memory,
 }
 
+// Asks the source once.
+fn read_some<I: Source>(input: &mut I, into: &mut [u8]) -> Result<usize, Failed>
+    ensures bound { ReadsAtMost result into.new }
+    ensures bytes { ReadConsumes (I.left input.old) (I.left input.new) result into.new }
+    ensures none_passed_over { OnOk result (NoneCounted I.counts_failures_alone (I.faults input.old) (I.faults input.new)) }
+    ensures cause { HasCause (I.faults input.old) (I.faults input.new) result }
+{
+    input.read(into)
+}
+
 /// Reads a source to its end, or `most + 1` bytes where it has more than `most`: so the caller sees that there
 /// are too many. After a refusal what was read is lost.
 pub fn read_all<I: Source>(alloc: Global, input: &mut I, most: u64) -> Result<Vec<u8>, ReadFault>
@@ -27,6 +39,7 @@ pub fn read_all<I: Source>(alloc: Global, input: &mut I, most: u64) -> Result<Ve
     ensures size { IfOk result (λ read. length read.items ≤ most + 1) }
     ensures taken { OnErr result (ConsumesFront (I.left input.old) (I.left input.new)) }
     ensures cause { IsErrOf result ReadFault.SourceFault → Rose (I.faults input.old) (I.faults input.new) }
+    ensures none_passed_over { result ≢ Err ReadFault.SourceFault → NoneCounted I.counts_failures_alone (I.faults input.old) (I.faults input.new) }
     ensures later { I.faults input.old ≤ I.faults input.new }
 {
     let mut bytes = Vec::new(alloc);
@@ -38,7 +51,7 @@ pub fn read_all<I: Source>(alloc: Global, input: &mut I, most: u64) -> Result<Ve
         } else {
             BLOCK
         };
-        let Ok(given) = input.read(&mut block[..count]) else {
+        let Ok(given) = read_some(input, &mut block[..count]) else {
             return Err(ReadFault::SourceFault);
         };
         if given == 0 {

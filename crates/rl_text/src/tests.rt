@@ -136,6 +136,8 @@ struct Slow {
 impl Source for Slow {
     ghost left = { λ _. None };
 
+    ghost counts_failures_alone = { true };
+
     ghost faults = { λ s. s.faults };
 
     fn read(&mut self, into: &mut [u8]) -> Result<usize, Failed> {
@@ -153,6 +155,8 @@ impl Source for Slow {
 
 impl Sink for Slow {
     ghost written = { λ _. None };
+
+    ghost counts_failures_alone = { true };
 
     ghost faults = { λ s. s.faults };
 

@@ -1,4 +1,4 @@
-use Rattle.std.proofs.Common.{arith}
+use Rattle.std.proofs.Common.{arith, rules}
 use Rattle.rl_text.proofs.Moves.{Moved-more}
 use Rattle.rl_text.proofs.output.put_bytes.Goals as goal
 
@@ -6,5 +6,6 @@ use Rattle.rl_text.proofs.output.put_bytes.Goals as goal
 pub loop-rest-preserved : goal.loop-rest-preserved
 loop-rest-preserved g c = record {
   moved = rw c.split_at.ensures.back (Moved-more _ _ _ _ _ c.in_ok-count.count c.loop-rest.invariant.moved c.in_ok-count.ensures.bytes);
+  none = search rules;
   later = omega (arith, c.in_ok-count.ensures.cause.later);
 }
