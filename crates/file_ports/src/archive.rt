@@ -1,8 +1,9 @@
 //! The archived logs as files of the current folder: `redo/log_<sequence>.srl`.
 //!
-//! A file that is not there is an absent log. Whatever else keeps a call from its answer is a failure and is counted:
-//! a folder or a device in a log's place, a file that may not be read, want of memory for its name.
-ghost use Rattle.std.specs.Prelude.{◌≡◌, None, false, refl, IfOk};
+//! A file that is not there is an absent log, which has no bytes to read; nor is there a byte at an offset that no file of
+//! its kind can have. So what a caller asks for makes no call fail. Whatever else keeps a call from its answer is a failure
+//! and is counted: a folder or a device in a log's place, a file that may not be read, want of memory for its name.
+ghost use Rattle.std.specs.Prelude.{◌≡◌, None, true, false, refl, IfOk};
 ghost use Rattle.std.specs.Io.{ReadsAtMost};
 
 use rl_ports::{Archive, Failed};
@@ -57,12 +58,14 @@ fn size_of<R: Files + AllocGlobal>(rt: &R, seq: u32) -> Result<Option<u64>, Fail
     }
 }
 
-fn open<R: Files + AllocGlobal>(rt: &R, seq: u32) -> Result<R::File, Failed> {
+// A log's file, if it is there.
+fn open<R: Files + AllocGlobal>(rt: &R, seq: u32) -> Result<Option<R::File>, Failed> {
     let Ok(path) = path_of(rt, seq) else {
         return Err(Failed);
     };
     match File::open(rt, path.as_str()) {
-        Ok(file) => Ok(file),
+        Ok(file) => Ok(Some(file)),
+        Err(error) if error.kind() == ErrorKind::NotFound => Ok(None),
         Err(_) => Err(Failed),
     }
 }
@@ -71,32 +74,36 @@ fn open<R: Files + AllocGlobal>(rt: &R, seq: u32) -> Result<R::File, Failed> {
 fn read_at<F: Read + Seek>(file: &mut F, at: u64, into: &mut [u8]) -> Result<usize, Failed>
     ensures { ReadsAtMost result into.new }
 {
-    if file.seek(SeekFrom::Start(at)).is_err() {
-        return Err(Failed);
-    }
-    match file.read(into) {
-        Ok(taken) => Ok(taken),
+    match file.seek(SeekFrom::Start(at)) {
+        Ok(_) => match file.read(into) {
+            Ok(taken) => Ok(taken),
+            Err(_) => Err(Failed),
+        },
+        // The offset is past what the system lets a file have.
+        Err(error) if error.kind() == ErrorKind::InvalidInput => Ok(0),
         Err(_) => Err(Failed),
     }
 }
 
 impl<R: Files + AllocGlobal> FileArchive<'_, R> {
-    // Takes the file of this log, opened anew unless it is the one that is open.
-    fn take_file(&mut self, seq: u32) -> Result<R::File, Failed>
+    // Takes the file of this log, if it is there, opened anew unless it is the one that is open.
+    fn take_file(&mut self, seq: u32) -> Result<Option<R::File>, Failed>
         ensures { self.new.faults ≡ self.old.faults }
     {
         match self.last.take() {
-            Some(log) if log.seq == seq => Ok(log.file),
+            Some(log) if log.seq == seq => Ok(Some(log.file)),
             _ => open(self.rt, seq),
         }
     }
 
-    // Some bytes of a log. Its file stays open, unless the read fails.
+    // Some bytes of a log, or none of an absent one. Its file stays open, unless the read fails.
     fn read_log(&mut self, seq: u32, at: u64, into: &mut [u8]) -> Result<usize, Failed>
         ensures bound { ReadsAtMost result into.new }
         ensures faults { self.new.faults ≡ self.old.faults }
     {
-        let mut file = self.take_file(seq)?;
+        let Some(mut file) = self.take_file(seq)? else {
+            return Ok(0);
+        };
         let count = read_at(&mut file, at, into)?;
         self.last = Some(OpenLog { seq, file });
         Ok(count)
@@ -107,6 +114,8 @@ impl<R: Files + AllocGlobal> Archive for FileArchive<'_, R> {
     ghost tells = { false };
 
     ghost logs = { λ _. None };
+
+    ghost counts_failures_alone = { true };
 
     ghost faults = { λ archive. archive.faults };
 

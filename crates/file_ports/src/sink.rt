@@ -1,7 +1,7 @@
 //! The standard output as a sink.
 //!
 //! It is not buffered: a write that is answered has left the program. It tells nothing of what was written.
-ghost use Rattle.std.specs.Prelude.{◌≡◌, None, IfOk};
+ghost use Rattle.std.specs.Prelude.{◌≡◌, None, true, IfOk};
 
 use rl_ports::{Failed, Sink};
 use rl_value::NoMemory;
@@ -26,6 +26,8 @@ impl<'r, R: Print> StdSink<'r, R> {
 
 impl<R: Print> Sink for StdSink<'_, R> {
     ghost written = { λ _. None };
+
+    ghost counts_failures_alone = { true };
 
     ghost faults = { λ sink. sink.faults };
 

@@ -1,7 +1,7 @@
 //! The standard input as a source.
 //!
 //! It tells nothing of what is left.
-ghost use Rattle.std.specs.Prelude.{◌≡◌, None, IfOk};
+ghost use Rattle.std.specs.Prelude.{◌≡◌, None, true, IfOk};
 
 use rl_ports::{Failed, Source};
 use rl_value::NoMemory;
@@ -25,6 +25,8 @@ impl<'r, R: Input> StdSource<'r, R> {
 
 impl<R: Input> Source for StdSource<'_, R> {
     ghost left = { λ _. None };
+
+    ghost counts_failures_alone = { true };
 
     ghost faults = { λ source. source.faults };
 

@@ -26,9 +26,13 @@ fn logs_are_files_of_the_folder(rt: HostRuntime) -> Result<(), Fail> {
     assert_eq!(rt; some, *b"wxyz");
     assert!(rt; matches!(archive.read(7, 2, &mut some), Ok(4)));
     assert_eq!(rt; some, *b"cdef");
-    // An absent log is no failure, as long as it is not read. A folder in a log's place is one.
+    // An offset that no file reaches is past the end of each.
+    assert!(rt; matches!(archive.read(7, u64::MAX, &mut some), Ok(0)));
+    assert!(rt; matches!(archive.read(7, 1 << 63, &mut some), Ok(0)));
+    assert!(rt; matches!(archive.read(7, (1 << 63) - 1, &mut some), Ok(0)));
+    // An absent log is no failure, and has no bytes. A folder in a log's place is one.
     assert!(rt; matches!(archive.length(9), Ok(None)));
-    assert!(rt; archive.read(9, 0, &mut some).is_err());
+    assert!(rt; matches!(archive.read(9, 0, &mut some), Ok(0)));
     assert!(rt; archive.length(8).is_err());
     assert!(rt; archive.read(8, 0, &mut some).is_err());
     // A log that was read before is opened anew.
