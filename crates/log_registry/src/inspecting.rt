@@ -1,6 +1,6 @@
 //! Looks at a log in the archive before it is registered.
 ghost use Rattle.std.specs.Prelude.{◌≡◌, ◌≢◌, ◌≤◌, length, Err, IfOk};
-ghost use Rattle.rl_ports.specs.Faults.{Told, Rose};
+ghost use Rattle.rl_ports.specs.Faults.{NoneCounted, Told, Rose};
 ghost use Rattle.log_registry.specs.declared.fault.RegFault.TheVariants.{ArchiveFault};
 ghost use Rattle.log_registry.specs.Front.{judged};
 ghost use Rattle.log_registry.specs.Registered.{looked, inspected};
@@ -33,6 +33,7 @@ pub fn look<A: Archive>(archive: &mut A, seq: u32) -> Result<LogEntry, RegFault>
     ensures sequence { IfOk result (λ entry. entry.head.seq ≡ seq) }
     ensures long { IfOk result (λ entry. 40 ≤ entry.length) }
     ensures failed { result ≡ Err ArchiveFault → Rose (A.faults archive.old) (A.faults archive.new) }
+    ensures none_passed_over { result ≢ Err ArchiveFault → NoneCounted A.counts_failures_alone (A.faults archive.old) (A.faults archive.new) }
     ensures count { A.faults archive.old ≤ A.faults archive.new }
     ensures logs { A.logs archive.new ≡ A.logs archive.old }
 {
@@ -55,6 +56,7 @@ pub fn inspect<A: Archive>(archive: &mut A, seq: u32, dbid: u32) -> Result<LogEn
     ensures long { IfOk result (λ entry. 40 ≤ entry.length) }
     ensures database { IfOk result (λ entry. entry.head.dbid ≡ dbid) }
     ensures failed { result ≡ Err ArchiveFault → Rose (A.faults archive.old) (A.faults archive.new) }
+    ensures none_passed_over { result ≢ Err ArchiveFault → NoneCounted A.counts_failures_alone (A.faults archive.old) (A.faults archive.new) }
     ensures count { A.faults archive.old ≤ A.faults archive.new }
     ensures logs { A.logs archive.new ≡ A.logs archive.old }
 {

@@ -27,7 +27,8 @@ struct Shelf {
 
 impl Shelf {
     fn call(&mut self) -> Result<(), Failed>
-        ensures { HasCause self.old.faults self.new.faults result }
+        ensures cause { HasCause self.old.faults self.new.faults result }
+        ensures alone { OnOk result (self.new.faults ≡ self.old.faults) }
     {
         self.calls = self.calls.saturating_add(1);
         if self.calls == self.fails_at {
@@ -58,6 +59,8 @@ impl Archive for Shelf {
     ghost tells = { false };
 
     ghost logs = { λ _. None };
+
+    ghost counts_failures_alone = { true };
 
     ghost faults = { λ shelf. shelf.faults };
 

@@ -1,5 +1,5 @@
 use Rattle.std.proofs.Common.{◌≡◌, ◌≤◌, ◌-◌, length}
-use Rattle.rl_ports.specs.Faults.{Told}
+use Rattle.rl_ports.specs.Faults.{NoneCounted, Told}
 use Rattle.log_registry.specs.Front.{IsReadTo}
 use Rattle.log_registry.proofs.front.read_front.Given as goal
 
@@ -12,6 +12,7 @@ invariant-loop-count g l =
       within : l.count ≤ 40;
       read : Told (logs l.fn.archive) (λ known. IsReadTo (known l.seq) l.front l.count);
       same : logs l.archive ≡ logs l.fn.archive;
+      none : NoneCounted g.A.Archive.counts_failures_alone (faults l.fn.archive) (faults l.archive);
       later : faults l.fn.archive ≤ faults l.archive;
     }
 
