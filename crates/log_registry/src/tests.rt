@@ -1,5 +1,5 @@
 //! Looks at five logs, in whole and in short reads and with a fault at each call; gaps, ends and copies of three logs.
-ghost use Rattle.std.specs.Prelude.{◌≡◌, None, false, refl};
+ghost use Rattle.std.specs.Prelude.{◌≡◌, None, OnOk, true, false, refl};
 ghost use Rattle.rl_ports.specs.Faults.{HasCause};
 
 use super::*;

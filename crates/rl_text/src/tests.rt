@@ -1,6 +1,6 @@
 //! The look of each literal, which bytes are none, and that the calls which want memory succeed where there is some.
 
-ghost use Rattle.std.specs.Prelude.{None};
+ghost use Rattle.std.specs.Prelude.{None, true};
 
 use crate::{put_key, put_line, put_row, put_value, put_xid, read_all, read_value};
 use rl_base::Line;
