@@ -1,5 +1,5 @@
 -- What a contract sees of the reading side, and what a cut does to it.
-use Rattle.std.specs.Prelude.{ℕ, ◌≡◌, ◌+◌, ◌-◌, ◌^◌, ◌<◌, nat_le, if◌then◌else◌, List, [], ◌∷◌, Option, Some, None, Ok}
+use Rattle.std.specs.Prelude.{ℕ, ◌≡◌, ◌+◌, ◌-◌, ◌^◌, ◌<◌, nat_le, if◌then◌else◌, List, [], ◌∷◌, Option, Some, None, Result, Ok, ⊤}
 use Rattle.rl_value.specs.declared.verdict.Stop.{Stop}
 use Rattle.redo_vec.specs.Cutting.{first_record}
 use Rattle.redo_wire.specs.declared.raw.Raw.{Raw}
@@ -8,13 +8,16 @@ use Rattle.log_registry.specs.Registered.{entry_of}
 use Rattle.redo_reader.specs.declared.place.Place.{Place}
 use Rattle.redo_reader.specs.declared.cut.Cut.{Cut}
 use Rattle.redo_reader.specs.declared.cut.Cut.TheVariants as cuts
+use Rattle.redo_reader.specs.declared.cut.CutError.{CutError}
 use Rattle.redo_reader.specs.Ahead.{Ahead, nothing_but, raws_before}
 
--- the archive, the registered logs, the place behind the last record that was given, and the end that was given
+-- the archive, the registered logs, the place behind the last record that was given, the records that are cut and wait to
+-- be given, and the end that was given
 pub record Reader (A : Type 0) : Type 0 where
   pub archive : A
   pub registry : List LogEntry
   pub place : Place
+  pub waiting : List Raw
   pub stop : Option Stop
 
 -- no more records of a log before than it has
@@ -41,10 +44,19 @@ pub record IsNext (p : Place) (raw : Raw) : Type 0 where
   pub room : raw.rec < 2 ^ 63
   pub whole : first_record raw.bytes ≡ Ok (raw.bytes, [])
 
+-- the first of the records that wait, and behind it the others
+abbrev pub FirstWaiting : List Raw → List Raw → Type 0 → Result Cut CutError → Type 0
+FirstWaiting [] after uncalled result = ⊤
+FirstWaiting (raw ∷ raws) after uncalled result = (result ≡ Ok (cuts.Raw raw)) × (after ≡ raws) × uncalled
+
 -- a cut leads from one place to the next
 abbrev pub LeadsOn : Cut → Place → Place → Type 0
 LeadsOn (cuts.Raw raw) old new = IsNext old raw × (new ≡ behind raw)
 LeadsOn (cuts.End stop) old new = new ≡ old
+
+-- where records wait the next of them is given and the others wait on, without a call of the archive
+abbrev pub GivesWaiting : {A : Type 0} → Reader A → Reader A → Result Cut CutError → Type 0
+GivesWaiting old new result = FirstWaiting old.waiting new.waiting (new.archive ≡ old.archive) result
 
 -- the end that is told with a cut
 abbrev pub told_end : Cut → Option Stop

@@ -1,6 +1,6 @@
 -- The reading side between two cuts: what its parts are to what is ahead.
 -- The records that wait are the first of what the open log gives from the front on, and the cutter gives the others.
-use Rattle.std.specs.Prelude.{ℕ, ◌≡◌, ◌+◌, ◌-◌, ◌*◌, ◌^◌, ◌<◌, ◌≤◌, List, [], ◌∷◌, ◌++◌, length, drop, Option, Some, None, IfSome, is_some, ⊤}
+use Rattle.std.specs.Prelude.{ℕ, ◌≡◌, ◌+◌, ◌-◌, ◌*◌, ◌^◌, ◌<◌, ◌≤◌, List, [], ◌∷◌, ◌++◌, length, drop, Option, Some, None, IfSome, is_some, Result, Ok, ⊤}
 use Rattle.std.specs.Option.{option_or}
 use Rattle.rl_value.specs.declared.cause.CutFault.{CutFault}
 use Rattle.rl_value.specs.declared.cause.Cause.TheVariants.{Cut as CutCause}
@@ -18,6 +18,7 @@ use Rattle.redo_reader.specs.declared.progress.OpenLog.{OpenLog}
 use Rattle.redo_reader.specs.declared.progress.RedoEnd.{RedoEnd}
 use Rattle.redo_reader.specs.declared.progress.RedoEnd.TheVariants as ends
 use Rattle.redo_reader.specs.declared.cut.Cut.{Cut}
+use Rattle.redo_reader.specs.declared.cut.CutError.{CutError}
 use Rattle.redo_reader.specs.declared.cut.Cut.TheVariants as cuts
 use Rattle.redo_reader.specs.declared.progress.Found.{Found}
 use Rattle.redo_reader.specs.declared.progress.Found.TheVariants as founds
@@ -180,6 +181,16 @@ abbrev pub distance : Place → Option OpenLog → ℕ
 distance front log = (2 ^ 32 - front.seq) * 2 ^ 65 + left_in log
 
 -- ---- a step
+
+-- the first of the records that wait is found, and behind it the others
+abbrev pub FirstFound : List Raw → List Raw → Type 0 → Result Found CutError → Type 0
+FirstFound [] after uncalled result = ⊤
+FirstFound (raw ∷ raws) after uncalled result = (result ≡ Ok (founds.Raw raw)) × (after ≡ raws) × uncalled
+
+-- nothing waited at first, or these records still wait and the archive was not called
+abbrev pub WaitsOn : List Raw → List Raw → Type 0 → Type 0
+WaitsOn [] waiting uncalled = ⊤
+WaitsOn (raw ∷ raws) waiting uncalled = (waiting ≡ raw ∷ raws) × uncalled
 
 -- what is given next
 abbrev pub cut_of : Found → Cut

@@ -1,12 +1,12 @@
 //! The steps between two cuts: a log is begun, a block of it is cut into records, its end is told.
-ghost use Rattle.std.specs.Prelude.{◌≡◌, ◌+◌, ◌-◌, ◌^◌, ◌<◌, ◌≤◌, [], None, Some, IfOk, IfSome, OnErr, IsErrOf, length};
+ghost use Rattle.std.specs.Prelude.{◌≡◌, ◌≢◌, ◌+◌, ◌-◌, ◌^◌, ◌<◌, ◌≤◌, [], None, Some, IfOk, IfSome, OnErr, Err, IsErrOf, length};
 ghost use Rattle.std.specs.Vec.Iter.{into_iter_items};
-ghost use Rattle.rl_ports.specs.Faults.{Told, Rose};
+ghost use Rattle.rl_ports.specs.Faults.{NoneCounted, Told, Rose};
 ghost use Rattle.log_registry.specs.Registered.{AreOf};
 ghost use Rattle.redo_reader.specs.declared.cut.CutError.TheVariants.{ArchiveFault as ArchiveFaulted};
 ghost use Rattle.redo_reader.specs.Ahead.{ahead};
 ghost use Rattle.redo_reader.specs.Reading.{LeadsOn, Gives};
-ghost use Rattle.redo_reader.specs.Steps.{IsClosed, BeginsBy, IsReading, EndsAt, opened, distance, cut_of};
+ghost use Rattle.redo_reader.specs.Steps.{IsClosed, BeginsBy, IsReading, EndsAt, opened, distance, cut_of, FirstFound};
 
 use crate::blocks::look_on;
 use crate::cut::CutError;
@@ -57,9 +57,11 @@ fn step<A: Archive>(
     ensures ends { IfOk result (λ end. IfSome end (EndsAt (A.logs archive.old) registry.now reading.old.place)) }
     ensures nearer { IfOk result (λ end. end ≡ None → distance reading.new.front reading.new.log < distance reading.old.front reading.old.log) }
     ensures place { reading.new.place ≡ reading.old.place }
+    ensures none_lost { OnErr result (into_iter_items reading.new.waiting ≡ into_iter_items reading.old.waiting) }
     ensures block { 0 < length reading.new.block.items }
     ensures logs { A.logs archive.new ≡ A.logs archive.old }
     ensures failed { IsErrOf result ArchiveFaulted → Rose (A.faults archive.old) (A.faults archive.new) }
+    ensures none_passed_over { result ≢ Err ArchiveFaulted → NoneCounted A.counts_failures_alone (A.faults archive.old) (A.faults archive.new) }
     ensures count { A.faults archive.old ≤ A.faults archive.new }
 {
     let Some(log) = &mut reading.log else {
@@ -110,8 +112,11 @@ pub(crate) fn advance<A: Archive>(
     ensures stands { IsReading (A.logs archive.new) registry.now reading.new.place reading.new.front (into_iter_items reading.new.waiting) reading.new.log }
     ensures block { 0 < length reading.new.block.items }
     ensures unchanged { OnErr result (reading.new.place ≡ reading.old.place) }
+    ensures waiting { FirstFound (into_iter_items reading.old.waiting) (into_iter_items reading.new.waiting) (archive.new ≡ archive.old) result }
+    ensures none_lost { OnErr result (into_iter_items reading.new.waiting ≡ into_iter_items reading.old.waiting) }
     ensures logs { A.logs archive.new ≡ A.logs archive.old }
     ensures failed { IsErrOf result ArchiveFaulted → Rose (A.faults archive.old) (A.faults archive.new) }
+    ensures none_passed_over { result ≢ Err ArchiveFaulted → NoneCounted A.counts_failures_alone (A.faults archive.old) (A.faults archive.new) }
     ensures count { A.faults archive.old ≤ A.faults archive.new }
 {
     loop {

@@ -1,6 +1,6 @@
 //! Reads a block of the open log, and cuts it into records.
-ghost use Rattle.std.specs.Prelude.{◌≡◌, ◌+◌, ◌<◌, ◌≤◌, None, false, length, is_some, IfOk, OnErr, IsErrOf};
-ghost use Rattle.rl_ports.specs.Faults.{Told, Rose, ReadsFrom};
+ghost use Rattle.std.specs.Prelude.{◌≡◌, ◌≢◌, ◌+◌, ◌<◌, ◌≤◌, None, false, length, is_some, IfOk, OnOk, OnErr, Err, IsErrOf};
+ghost use Rattle.rl_ports.specs.Faults.{NoneCounted, Told, Rose, ReadsFrom};
 ghost use Rattle.redo_wire.specs.Stream.{given, nothing};
 ghost use Rattle.redo_reader.specs.declared.cut.CutError.TheVariants.{ArchiveFault as ArchiveFaulted};
 ghost use Rattle.redo_reader.specs.Steps.{IsFed, Shows};
@@ -26,6 +26,7 @@ fn read_block<A: Archive>(
     ensures bytes { Told (A.logs archive.old) (λ logs. IfOk result (ReadsFrom (logs seq) offset block.new)) }
     ensures logs { A.logs archive.new ≡ A.logs archive.old }
     ensures failed { OnErr result (Rose (A.faults archive.old) (A.faults archive.new)) }
+    ensures none_passed_over { OnOk result (NoneCounted A.counts_failures_alone (A.faults archive.old) (A.faults archive.new)) }
     ensures count { A.faults archive.old ≤ A.faults archive.new }
 {
     archive.read(seq, offset, &mut block[..most])
@@ -73,6 +74,7 @@ pub(crate) fn look_on<A: Archive>(
     ensures unchanged { OnErr result (log.new ≡ log.old) }
     ensures logs { A.logs archive.new ≡ A.logs archive.old }
     ensures failed { IsErrOf result ArchiveFaulted → Rose (A.faults archive.old) (A.faults archive.new) }
+    ensures none_passed_over { result ≢ Err ArchiveFaulted → NoneCounted A.counts_failures_alone (A.faults archive.old) (A.faults archive.new) }
     ensures count { A.faults archive.old ≤ A.faults archive.new }
 {
     if log.cause.is_some() {

@@ -1,9 +1,9 @@
 //! The reading side: an archive, the registered logs, and how far they are read.
-ghost use Rattle.std.specs.Prelude.{◌≡◌, ◌≤◌, ◌<◌, ◌+◌, ◌^◌, IfOk, OnErr, IfErr, IfSome, IsErrOf, None, Ok};
-ghost use Rattle.rl_ports.specs.Faults.{Told, Rose};
+ghost use Rattle.std.specs.Prelude.{◌≡◌, ◌≢◌, [], ◌≤◌, ◌<◌, ◌+◌, ◌^◌, IfOk, OnErr, IfErr, IfSome, IsErrOf, None, Ok, Err};
+ghost use Rattle.rl_ports.specs.Faults.{NoneCounted, Told, Rose};
 ghost use Rattle.log_registry.specs.Registered.{AreOf, count_of, entry_of};
 ghost use Rattle.redo_reader.specs.Ahead.{ahead};
-ghost use Rattle.redo_reader.specs.Reading.{done_within, clamped_place, LeadsOn, told_end, Gives};
+ghost use Rattle.redo_reader.specs.Reading.{done_within, clamped_place, LeadsOn, told_end, Gives, GivesWaiting};
 ghost use Rattle.redo_reader.specs.declared.cut.CutError.TheVariants.{ArchiveFault as ArchiveFaulted};
 ghost use Rattle.redo_reader.specs.declared.cut.Cut.TheVariants.{End};
 
@@ -41,7 +41,7 @@ impl<A: Archive> Model for ReadSide<A> {
 
     ghost Value = { Reader A };
 
-    ghost view = { λ r. record { archive = r.archive; registry = r.registry; place = r.reading.place; stop = option_map stop_of r.stop } };
+    ghost view = { λ r. record { archive = r.archive; registry = r.registry; place = r.reading.place; waiting = into_iter_items r.reading.waiting; stop = option_map stop_of r.stop } };
 
     ghost invariant = { λ r. (0 < length r.reading.block.items) × IsSide (A.logs r.archive) r.registry r.reading.place r.reading.front (into_iter_items r.reading.waiting) r.reading.log r.stop };
 }
@@ -92,7 +92,7 @@ impl<A: Archive> ReadSide<A> {
         place: Place,
     ) -> Result<ReadSide<A>, (NoMemory, A)>
         requires room { place.rec + count_of registry < 2 ^ 63 }
-        ensures begun { IfOk result (λ r. r ≡ record { archive = archive; registry = registry; place = clamped_place registry place; stop = None }) }
+        ensures begun { IfOk result (λ r. r ≡ record { archive = archive; registry = registry; place = clamped_place registry place; waiting = []; stop = None }) }
         ensures back { IfErr result (λ e. e.1 ≡ archive) }
     {
         let Ok(block) = vec![in alloc; 0u8; BLOCK] else {
@@ -123,10 +123,15 @@ impl<A: Archive> ReadSide<A> {
         ensures told { IfOk result (λ cut. self.new.stop ≡ told_end cut) }
         ensures again { IfSome self.old.stop (λ stop. IfOk result (λ cut. cut ≡ End stop)) }
         ensures unchanged { OnErr result (self.new.place ≡ self.old.place) }
+        // Records that are cut are given before the archive is called again, and no refusal loses one.
+        ensures waiting { self.old.stop ≡ None → GivesWaiting self.old self.new result }
+        ensures none_lost { OnErr result (self.new.waiting ≡ self.old.waiting) }
         ensures kept { OnErr result (self.new.stop ≡ self.old.stop) }
         ensures registry { self.new.registry ≡ self.old.registry }
         ensures logs { A.logs self.new.archive ≡ A.logs self.old.archive }
         ensures failed { IsErrOf result ArchiveFaulted → Rose (A.faults self.old.archive) (A.faults self.new.archive) }
+        // Behind any other answer the archive has counted no failure.
+        ensures none_passed_over { result ≢ Err ArchiveFaulted → NoneCounted A.counts_failures_alone (A.faults self.old.archive) (A.faults self.new.archive) }
         ensures count { A.faults self.old.archive ≤ A.faults self.new.archive }
     {
         if let Some(end) = self.stop {

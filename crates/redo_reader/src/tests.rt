@@ -1,5 +1,5 @@
 //! Readings of small logs: a gap, a record without its last byte, copies, and a fault at each of the archive's calls.
-ghost use Rattle.std.specs.Prelude.{◌≤◌, ◌<◌, ◌+◌, ◌*◌, ◌^◌, length, IfOk, None, false, refl};
+ghost use Rattle.std.specs.Prelude.{◌≡◌, ◌≤◌, ◌<◌, ◌+◌, ◌*◌, ◌^◌, length, IfOk, OnOk, None, true, false, refl};
 ghost use Rattle.rl_ports.specs.Faults.{HasCause};
 ghost use Rattle.log_registry.specs.Registered.{count_of};
 
@@ -61,7 +61,8 @@ struct Shelf {
 
 impl Shelf {
     fn call(&mut self) -> Result<(), Failed>
-        ensures { HasCause self.old.faults self.new.faults result }
+        ensures cause { HasCause self.old.faults self.new.faults result }
+        ensures alone { OnOk result (self.new.faults ≡ self.old.faults) }
     {
         self.calls = self.calls.saturating_add(1);
         if self.calls == self.fails_at {
@@ -76,6 +77,8 @@ impl Archive for Shelf {
     ghost tells = { false };
 
     ghost logs = { λ _. None };
+
+    ghost counts_failures_alone = { true };
 
     ghost faults = { λ shelf. shelf.faults };
 
