@@ -1,4 +1,4 @@
-//! Runs the program over hostile logs, words and devices, and tests each run's end: a status of the README's table, and its line.
+//! Runs the program over hostile logs, words and devices, and tests each run's end: a status of the manual's table, and its line.
 //!
 //!     hostile PROGRAM FOLDER COUNT      FOLDER is a scratch folder
 //!
