@@ -15,8 +15,8 @@ use Rattle.redo_spec.specs.LogHeader.{header_in, header_fault}
 use Rattle.log_registry.specs.declared.entry.LogEntry.{LogEntry}
 use Rattle.log_registry.specs.declared.fault.RegFault.{RegFault}
 use Rattle.log_registry.specs.declared.fault.RegFault.TheVariants as refusals
-use Rattle.log_registry.specs.Registered.{of_database, unless_refused, entry_with, looked, inspected}
-use Rattle.log_registry.specs.Front.{judged, IsFront}
+use Rattle.log_registry.specs.Registered.{of_database, entry_unless_refused, entry_with, answer_of_look, answer_of_inspect}
+use Rattle.log_registry.specs.Front.{entry_of_front, IsFront}
 
 two_more : (a b : List ℕ) → 2 ≤ length a → from_be_bytes w16 (a ++ b) ≡ from_be_bytes w16 a
 two_more [] b h = absurd (omega arith)
@@ -82,23 +82,23 @@ fault_more seq a b h =
 
 -- ---- what is judged
 
-short_log : (seq : ℕ) (bytes : List ℕ) → nat_lt (length bytes) 40 ≡ true → judged (take 40 bytes) (length bytes) seq ≡ looked seq (Some bytes)
+short_log : (seq : ℕ) (bytes : List ℕ) → nat_lt (length bytes) 40 ≡ true → entry_of_front (take 40 bytes) (length bytes) seq ≡ answer_of_look seq (Some bytes)
 short_log seq bytes short = rw short refl
 
-long_log : (seq : ℕ) (bytes a b : List ℕ) → a ++ b ≡ bytes → 40 ≤ length a → judged a (length bytes) seq ≡ looked seq (Some bytes)
+long_log : (seq : ℕ) (bytes a b : List ℕ) → a ++ b ≡ bytes → 40 ≤ length a → entry_of_front a (length bytes) seq ≡ answer_of_look seq (Some bytes)
 long_log seq bytes a b is h =
     let size : nat_lt (length bytes) 40 ≡ false = (let all = ap length is in let sum = length-append a b in grind (arith, nat_tests, all, sum, h)) in
-    ap (λ (c : Bool). cond c (Err (refusals.BadHeader heads.Short)) (unless_refused (header_fault seq a) (Ok (entry_with (header_in a) (length bytes))))) size
-    ∙ sym (λ i. unless_refused (fault_more seq a b h i) (Ok (entry_with (header_more a b h i) (length bytes))))
-    ∙ ap (λ (bs : List ℕ). unless_refused (header_fault seq bs) (Ok (entry_with (header_in bs) (length bytes)))) is
+    ap (λ (c : Bool). cond c (Err (refusals.BadHeader heads.Short)) (entry_unless_refused (header_fault seq a) (Ok (entry_with (header_in a) (length bytes))))) size
+    ∙ sym (λ i. entry_unless_refused (fault_more seq a b h i) (Ok (entry_with (header_more a b h i) (length bytes))))
+    ∙ ap (λ (bs : List ℕ). entry_unless_refused (header_fault seq bs) (Ok (entry_with (header_in bs) (length bytes)))) is
 
-of_size : (c : Bool) (seq : ℕ) (bytes : List ℕ) → nat_lt (length bytes) 40 ≡ c → judged (take 40 bytes) (length bytes) seq ≡ looked seq (Some bytes)
+of_size : (c : Bool) (seq : ℕ) (bytes : List ℕ) → nat_lt (length bytes) 40 ≡ c → entry_of_front (take 40 bytes) (length bytes) seq ≡ answer_of_look seq (Some bytes)
 of_size true seq bytes is = short_log seq bytes is
 of_size false seq bytes is =
     let long : 40 ≤ length bytes = grind (arith, nat_tests, is) in
     long_log seq bytes (take 40 bytes) (drop 40 bytes) (take-append-drop 40 bytes) (omega (arith, length-take-le 40 bytes long))
 
-pub judged_log : (seq : ℕ) (bytes : List ℕ) → judged (take 40 bytes) (length bytes) seq ≡ looked seq (Some bytes)
+pub judged_log : (seq : ℕ) (bytes : List ℕ) → entry_of_front (take 40 bytes) (length bytes) seq ≡ answer_of_look seq (Some bytes)
 judged_log seq bytes = of_size (nat_lt (length bytes) 40) seq bytes refl
 
 -- ---- a header that was read
@@ -112,7 +112,7 @@ err_header None h fault e = absurd (cc)
 err_header (Some other) h fault e = cc
 
 abbrev Judging : ℕ → Option HeadFault → Header → Result LogEntry RegFault
-Judging size f h = cond (nat_lt size 40) (Err (refusals.BadHeader heads.Short)) (unless_refused f (Ok (entry_with h size)))
+Judging size f h = cond (nat_lt size 40) (Err (refusals.BadHeader heads.Short)) (entry_unless_refused f (Ok (entry_with h size)))
 
 pub judged_err : (size : ℕ) (f : Option HeadFault) (h : Header) (fault : HeadFault) → 40 ≤ size → Err fault ≡ refused_by f h → Err (refusals.BadHeader fault) ≡ Judging size f h
 judged_err size f h fault long e =
@@ -149,7 +149,7 @@ sequence_is seq bytes e =
 abbrev pub AskedFor : ℕ → LogEntry → Type 0
 AskedFor seq e = e.head.seq ≡ seq
 
-unless_fits : (f : Option HeadFault) (seq size : ℕ) (bytes : List ℕ) → header_fault seq bytes ≡ f → IfOk (unless_refused f (Ok (entry_with (header_in bytes) size))) (AskedFor seq)
+unless_fits : (f : Option HeadFault) (seq size : ℕ) (bytes : List ℕ) → header_fault seq bytes ≡ f → IfOk (entry_unless_refused f (Ok (entry_with (header_in bytes) size))) (AskedFor seq)
 unless_fits None seq size bytes is = sequence_is seq bytes is
 unless_fits (Some fault) seq size bytes is = tt
 
@@ -157,21 +157,21 @@ sized_fits : (c : Bool) (seq : ℕ) (r : Result LogEntry RegFault) → IfOk r (A
 sized_fits true seq r h = tt
 sized_fits false seq r h = h
 
-pub judged_fits : (front : List ℕ) (size seq : ℕ) → IfOk (judged front size seq) (AskedFor seq)
+pub judged_fits : (front : List ℕ) (size seq : ℕ) → IfOk (entry_of_front front size seq) (AskedFor seq)
 judged_fits front size seq = sized_fits (nat_lt size 40) seq _ (unless_fits (header_fault seq front) seq size front refl)
 
-unless_long : (f : Option HeadFault) (size : ℕ) (h : Header) → 40 ≤ size → IfOk (unless_refused f (Ok (entry_with h size))) (λ e. 40 ≤ e.length)
+unless_long : (f : Option HeadFault) (size : ℕ) (h : Header) → 40 ≤ size → IfOk (entry_unless_refused f (Ok (entry_with h size))) (λ e. 40 ≤ e.length)
 unless_long None size h long = long
 unless_long (Some fault) size h long = tt
 
-sized_long : (c : Bool) (f : Option HeadFault) (size : ℕ) (h : Header) → nat_lt size 40 ≡ c → IfOk (cond c (Err (refusals.BadHeader heads.Short)) (unless_refused f (Ok (entry_with h size)))) (λ e. 40 ≤ e.length)
+sized_long : (c : Bool) (f : Option HeadFault) (size : ℕ) (h : Header) → nat_lt size 40 ≡ c → IfOk (cond c (Err (refusals.BadHeader heads.Short)) (entry_unless_refused f (Ok (entry_with h size)))) (λ e. 40 ≤ e.length)
 sized_long true f size h is = tt
 sized_long false f size h is = unless_long f size h (grind (arith, nat_tests, is))
 
-pub judged_long : (front : List ℕ) (size seq : ℕ) → IfOk (judged front size seq) (λ e. 40 ≤ e.length)
+pub judged_long : (front : List ℕ) (size seq : ℕ) → IfOk (entry_of_front front size seq) (λ e. 40 ≤ e.length)
 judged_long front size seq = sized_long (nat_lt size 40) (header_fault seq front) size (header_in front) refl
 
-unless_no_fault : (f : Option HeadFault) (size : ℕ) (h : Header) → unless_refused f (Ok (entry_with h size)) ≡ Err refusals.ArchiveFault → ⊥
+unless_no_fault : (f : Option HeadFault) (size : ℕ) (h : Header) → entry_unless_refused f (Ok (entry_with h size)) ≡ Err refusals.ArchiveFault → ⊥
 unless_no_fault None size h is = cc
 unless_no_fault (Some fault) size h is = cc
 
@@ -179,18 +179,18 @@ sized_no_fault : (c : Bool) (r : Result LogEntry RegFault) → (r ≡ Err refusa
 sized_no_fault true r h is = cc
 sized_no_fault false r h is = h is
 
-pub judged_no_fault : (front : List ℕ) (size seq : ℕ) → judged front size seq ≡ Err refusals.ArchiveFault → ⊥
+pub judged_no_fault : (front : List ℕ) (size seq : ℕ) → entry_of_front front size seq ≡ Err refusals.ArchiveFault → ⊥
 judged_no_fault front size seq is = sized_no_fault (nat_lt size 40) _ (unless_no_fault (header_fault seq front) size (header_in front)) is
 
 found_exact : (log : Option (List ℕ)) (seq size count : ℕ) (found : Option ℕ) (front : List ℕ) (r : Result LogEntry RegFault) → found ≡ Some size → found ≡ option_map length log → IsFront log front count →
-    r ≡ judged (take count front) size seq → r ≡ looked seq log
+    r ≡ entry_of_front (take count front) size seq → r ≡ answer_of_look seq log
 found_exact None seq size count found front r is known read judge = absurd (cc)
 found_exact (Some bytes) seq size count found front r is known read judge =
     let same : size ≡ length bytes = cc in
-    judge ∙ (λ i. judged (read i) (same i) seq) ∙ judged_log seq bytes
+    judge ∙ (λ i. entry_of_front (read i) (same i) seq) ∙ judged_log seq bytes
 
 pub told_exact : (known : Option (ℕ → Option (List ℕ))) (seq size count : ℕ) (found : Option ℕ) (front : List ℕ) (r : Result LogEntry RegFault) → found ≡ Some size → Told known (λ logs. found ≡ option_map length (logs seq)) → Told known (λ logs. IsFront (logs seq) front count) →
-    r ≡ judged (take count front) size seq → Told known (λ logs. (r ≡ Err refusals.ArchiveFault → ⊥) → r ≡ looked seq (logs seq))
+    r ≡ entry_of_front (take count front) size seq → Told known (λ logs. (r ≡ Err refusals.ArchiveFault → ⊥) → r ≡ answer_of_look seq (logs seq))
 told_exact None seq size count found front r is known read judge = tt
 told_exact (Some logs) seq size count found front r is known read judge = λ ok. found_exact (logs seq) seq size count found front r is known read judge
 
@@ -204,7 +204,7 @@ abbrev length_or : ℕ → Result LogEntry RegFault → ℕ
 length_or n (Ok e) = e.length
 length_or n (Err fault) = n
 
-by_database : (f : Option HeadFault) (dbid : ℕ) (h : Header) (size : ℕ) (e : LogEntry) → Ok e ≡ unless_refused f (Ok (entry_with h size)) → of_database dbid e.head e.length ≡ unless_refused f (of_database dbid h size)
+by_database : (f : Option HeadFault) (dbid : ℕ) (h : Header) (size : ℕ) (e : LogEntry) → Ok e ≡ entry_unless_refused f (Ok (entry_with h size)) → of_database dbid e.head e.length ≡ entry_unless_refused f (of_database dbid h size)
 by_database None dbid h size e is =
     let head : e.head ≡ h = ap (λ (r : Result LogEntry RegFault). head_or h r) is in
     let length : e.length ≡ size = ap (λ (r : Result LogEntry RegFault). length_or size r) is in
@@ -212,23 +212,23 @@ by_database None dbid h size e is =
 by_database (Some fault) dbid h size e is = absurd (cc)
 
 -- a log that was looked at, for this database
-pub inspected_by : (seq dbid : ℕ) (log : Option (List ℕ)) (e : LogEntry) → Ok e ≡ looked seq log → of_database dbid e.head e.length ≡ inspected seq dbid log
+pub inspected_by : (seq dbid : ℕ) (log : Option (List ℕ)) (e : LogEntry) → Ok e ≡ answer_of_look seq log → of_database dbid e.head e.length ≡ answer_of_inspect seq dbid log
 inspected_by seq dbid None e is = absurd (cc)
 inspected_by seq dbid (Some bytes) e is = by_database (header_fault seq bytes) dbid (header_in bytes) (length bytes) e is
 
-refused_alike : (f : Option HeadFault) (dbid : ℕ) (h : Header) (size : ℕ) (fault : RegFault) → Err fault ≡ unless_refused f (Ok (entry_with h size)) → Err fault ≡ unless_refused f (of_database dbid h size)
+refused_alike : (f : Option HeadFault) (dbid : ℕ) (h : Header) (size : ℕ) (fault : RegFault) → Err fault ≡ entry_unless_refused f (Ok (entry_with h size)) → Err fault ≡ entry_unless_refused f (of_database dbid h size)
 refused_alike None dbid h size fault is = absurd (cc)
 refused_alike (Some other) dbid h size fault is = is
 
-pub refused_by_look : (seq dbid : ℕ) (log : Option (List ℕ)) (fault : RegFault) → Err fault ≡ looked seq log → Err fault ≡ inspected seq dbid log
+pub refused_by_look : (seq dbid : ℕ) (log : Option (List ℕ)) (fault : RegFault) → Err fault ≡ answer_of_look seq log → Err fault ≡ answer_of_inspect seq dbid log
 refused_by_look seq dbid None fault is = is
 refused_by_look seq dbid (Some bytes) fault is = refused_alike (header_fault seq bytes) dbid (header_in bytes) (length bytes) fault is
 
 abbrev LooksAs : Option (ℕ → Option (List ℕ)) → ℕ → Result LogEntry RegFault → Type 0
-LooksAs known seq r = Told known (λ logs. (r ≡ Err refusals.ArchiveFault → ⊥) → r ≡ looked seq (logs seq))
+LooksAs known seq r = Told known (λ logs. (r ≡ Err refusals.ArchiveFault → ⊥) → r ≡ answer_of_look seq (logs seq))
 
 abbrev InspectsAs : Option (ℕ → Option (List ℕ)) → ℕ → ℕ → Result LogEntry RegFault → Type 0
-InspectsAs known seq dbid r = Told known (λ logs. (r ≡ Err refusals.ArchiveFault → ⊥) → r ≡ inspected seq dbid (logs seq))
+InspectsAs known seq dbid r = Told known (λ logs. (r ≡ Err refusals.ArchiveFault → ⊥) → r ≡ answer_of_inspect seq dbid (logs seq))
 
 pub told_refused : (known : Option (ℕ → Option (List ℕ))) (seq dbid : ℕ) (fault : RegFault) → LooksAs known seq (Err fault) → InspectsAs known seq dbid (Err fault)
 told_refused None seq dbid fault looks = tt

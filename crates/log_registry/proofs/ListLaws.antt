@@ -13,8 +13,8 @@ use Rattle.std.specs.BTreeMap.Range.{entries_between, range_contains}
 use Rattle.std.specs.declared.ops.Bound.TheVariants.{Included, Unbounded}
 use Rattle.std.proofs.lemmas.Bool.Decides.{nat_tests}
 use Rattle.log_registry.specs.declared.entry.LogEntry.{LogEntry}
-use Rattle.log_registry.specs.Keyed.{AreKeyed, IsKeyed}
-use Rattle.log_registry.specs.Registered.{entry_of, entries_from, with_log, count_of, IsOf, AreOf, RiseFrom, IsRising, AreBelow, next_in, Log, Gap}
+use Rattle.log_registry.specs.Keyed.{AreUnderSequences, IsUnderSequence}
+use Rattle.log_registry.specs.Registered.{entry_of, entries_from, with_log, count_of, IsToldBy, AreToldBy, RiseFrom, IsRising, AreBelow, next_in, Log, Gap}
 
 turned : (a b : ℕ) → (a == b) ≡ (b == a)
 turned a b = grind (arith, nat_tests)
@@ -23,7 +23,7 @@ same_key : (seq key : ℕ) (e : LogEntry) → key ≡ e.head.seq → is_at (nat_
 same_key seq key e is = unsigned_tied seq key ∙ turned seq key ∙ ap (λ (n : ℕ). n == seq) is
 
 -- a look-up finds the entry of the sequence
-pub lookup-entry_of : (seq : ℕ) (ps : List (ℕ × LogEntry)) → AreKeyed ps → lookup (is_at (nat_cmp seq)) ps ≡ entry_of seq (values_of ps)
+pub lookup-entry_of : (seq : ℕ) (ps : List (ℕ × LogEntry)) → AreUnderSequences ps → lookup (is_at (nat_cmp seq)) ps ≡ entry_of seq (values_of ps)
 lookup-entry_of seq [] k = refl
 lookup-entry_of seq (p ∷ ps) k =
     ap (λ (b : Bool). cond b (Some p.1) (lookup (is_at (nat_cmp seq)) ps)) (same_key seq p.0 p.1 k.0.same)
@@ -36,14 +36,14 @@ none_there (Some x) e = absurd (cc)
 -- ---- an insert
 
 abbrev Puts : LogEntry → List (ℕ × LogEntry) → List (ℕ × LogEntry) → Type 0
-Puts e before after = AreKeyed after × (values_of after ≡ with_log e (values_of before))
+Puts e before after = AreUnderSequences after × (values_of after ≡ with_log e (values_of before))
 
 absent_head : (b : Bool) (e : LogEntry) (o : Option LogEntry) → cond b (Some e) o ≡ None → (b ≡ false) × (o ≡ None)
 absent_head true e o is = absurd (cc)
 absent_head false e o is = (refl, is)
 
 puts_at : (o : Ordering) (e : LogEntry) (p : ℕ × LogEntry) (ps rest : List (ℕ × LogEntry)) → e.head.seq < 2 ^ 32 →
-    o ≡ nat_cmp e.head.seq p.0 → AreKeyed (p ∷ ps) → (p.1.head.seq == e.head.seq) ≡ false → Puts e ps rest →
+    o ≡ nat_cmp e.head.seq p.0 → AreUnderSequences (p ∷ ps) → (p.1.head.seq == e.head.seq) ≡ false → Puts e ps rest →
     Puts e (p ∷ ps) (match_ordering o ((e.head.seq, e) ∷ p ∷ ps) ((p.0, e) ∷ ps) (p ∷ rest))
 puts_at Less e p ps rest fits is k other later =
     let below : e.head.seq < p.0 = ranked e.head.seq p.0 Less is in
@@ -61,17 +61,17 @@ puts_at Greater e p ps rest fits is k other later =
     let behind : nat_lt e.head.seq p.1.head.seq ≡ false = grind (arith, nat_tests, above, key) in
     ((k.0, later.0), ap (λ (es : List LogEntry). p.1 ∷ es) later.1 ∙ sym (ap (λ (b : Bool). cond b (e ∷ p.1 ∷ values_of ps) (p.1 ∷ with_log e (values_of ps))) behind))
 
-pub insert_puts : (e : LogEntry) (ps : List (ℕ × LogEntry)) → e.head.seq < 2 ^ 32 → AreKeyed ps → entry_of e.head.seq (values_of ps) ≡ None →
+pub insert_puts : (e : LogEntry) (ps : List (ℕ × LogEntry)) → e.head.seq < 2 ^ 32 → AreUnderSequences ps → entry_of e.head.seq (values_of ps) ≡ None →
     Puts e ps (insert_entry nat_cmp ps e.head.seq e)
 insert_puts e [] fits k absent = ((record { same = refl; fits = fits }, tt), refl)
 insert_puts e (p ∷ ps) fits k absent =
     let head = absent_head (p.1.head.seq == e.head.seq) p.1 (entry_of e.head.seq (values_of ps)) absent in
     puts_at (nat_cmp e.head.seq p.0) e p ps (insert_entry nat_cmp ps e.head.seq e) fits refl k head.0 (insert_puts e ps fits k.1 head.1)
 
-pub keyed_insert : (e : LogEntry) (ps after : List (ℕ × LogEntry)) → e.head.seq < 2 ^ 32 → AreKeyed ps → entry_of e.head.seq (values_of ps) ≡ None → after ≡ insert_entry nat_cmp ps e.head.seq e → AreKeyed after
-keyed_insert e ps after fits k absent is = subst AreKeyed (sym is) (insert_puts e ps fits k absent).0
+pub keyed_insert : (e : LogEntry) (ps after : List (ℕ × LogEntry)) → e.head.seq < 2 ^ 32 → AreUnderSequences ps → entry_of e.head.seq (values_of ps) ≡ None → after ≡ insert_entry nat_cmp ps e.head.seq e → AreUnderSequences after
+keyed_insert e ps after fits k absent is = subst AreUnderSequences (sym is) (insert_puts e ps fits k absent).0
 
-pub values_insert : (e : LogEntry) (ps after : List (ℕ × LogEntry)) → e.head.seq < 2 ^ 32 → AreKeyed ps → entry_of e.head.seq (values_of ps) ≡ None → after ≡ insert_entry nat_cmp ps e.head.seq e → values_of after ≡ with_log e (values_of ps)
+pub values_insert : (e : LogEntry) (ps after : List (ℕ × LogEntry)) → e.head.seq < 2 ^ 32 → AreUnderSequences ps → entry_of e.head.seq (values_of ps) ≡ None → after ≡ insert_entry nat_cmp ps e.head.seq e → values_of after ≡ with_log e (values_of ps)
 values_insert e ps after fits k absent is = ap values_of is ∙ (insert_puts e ps fits k absent).1
 
 -- ---- what is found after an insert
@@ -108,18 +108,18 @@ pub count_with : (e : LogEntry) (es : List LogEntry) → count_of (with_log e es
 count_with e [] = refl
 count_with e (first ∷ es) = count_at (nat_lt e.head.seq first.head.seq) e first es (count_with e es)
 
-are_at : (b : Bool) (logs : ℕ → Option (List ℕ)) (e first : LogEntry) (es : List LogEntry) → AreOf logs (first ∷ es) → IsOf logs e → AreOf logs (with_log e es) → AreOf logs (cond b (e ∷ first ∷ es) (first ∷ with_log e es))
+are_at : (b : Bool) (logs : ℕ → Option (List ℕ)) (e first : LogEntry) (es : List LogEntry) → AreToldBy logs (first ∷ es) → IsToldBy logs e → AreToldBy logs (with_log e es) → AreToldBy logs (cond b (e ∷ first ∷ es) (first ∷ with_log e es))
 are_at true logs e first es are of later = (of, are)
 are_at false logs e first es are of later = (are.0, later)
 
 -- the logs of an archive stay so
-pub are_with : (logs : ℕ → Option (List ℕ)) (e : LogEntry) (es : List LogEntry) → AreOf logs es → IsOf logs e → AreOf logs (with_log e es)
+pub are_with : (logs : ℕ → Option (List ℕ)) (e : LogEntry) (es : List LogEntry) → AreToldBy logs es → IsToldBy logs e → AreToldBy logs (with_log e es)
 are_with logs e [] are of = (of, tt)
 are_with logs e (first ∷ es) are of = are_at (nat_lt e.head.seq first.head.seq) logs e first es are of (are_with logs e es are.1 of)
 
 -- ---- in order
 
-rises_from : (key least : ℕ) (ps : List (ℕ × LogEntry)) → least ≤ key + 1 → AreKeyed ps → AllByRecursion (λ y. nat_cmp key y ≡ Less) (keys_of ps) → IsStrictlySortedBy nat_cmp (keys_of ps) → RiseFrom least (values_of ps)
+rises_from : (key least : ℕ) (ps : List (ℕ × LogEntry)) → least ≤ key + 1 → AreUnderSequences ps → AllByRecursion (λ y. nat_cmp key y ≡ Less) (keys_of ps) → IsStrictlySortedBy nat_cmp (keys_of ps) → RiseFrom least (values_of ps)
 unfolding IsStrictlySortedBy
 rises_from key least [] is k h s = tt
 rises_from key least (p ∷ ps) is k h s =
@@ -127,12 +127,12 @@ rises_from key least (p ∷ ps) is k h s =
     let its = k.0.same in
     (omega (arith, below, its, is), rises_from p.0 (p.1.head.seq + 1) ps (omega (arith, its)) k.1 s.0 s.1)
 
-pub rises : (ps : List (ℕ × LogEntry)) → AreKeyed ps → IsStrictlySortedBy nat_cmp (keys_of ps) → IsRising (values_of ps)
+pub rises : (ps : List (ℕ × LogEntry)) → AreUnderSequences ps → IsStrictlySortedBy nat_cmp (keys_of ps) → IsRising (values_of ps)
 unfolding IsStrictlySortedBy
 rises [] k h = tt
 rises (p ∷ ps) k h = let its = k.0.same in (omega arith, rises_from p.0 (p.1.head.seq + 1) ps (omega (arith, its)) k.1 h.0 h.1)
 
-pub fits_all : (ps : List (ℕ × LogEntry)) → AreKeyed ps → AreBelow (2 ^ 32) (values_of ps)
+pub fits_all : (ps : List (ℕ × LogEntry)) → AreUnderSequences ps → AreBelow (2 ^ 32) (values_of ps)
 fits_all [] k = tt
 fits_all (p ∷ ps) k = (k.0.fits, fits_all ps k.1)
 
@@ -180,27 +180,27 @@ from_at false seq p ps e k h later =
     ∙ sym (ap (λ (b : Bool). cond b (entries_from seq (values_of ps)) (p.1 ∷ values_of ps)) its)
 
 -- the range from a sequence on
-pub from_is : (seq : ℕ) (ps : List (ℕ × LogEntry)) → AreKeyed ps → IsStrictlySortedBy nat_cmp (keys_of ps) → values_of (from_seq seq ps) ≡ entries_from seq (values_of ps)
+pub from_is : (seq : ℕ) (ps : List (ℕ × LogEntry)) → AreUnderSequences ps → IsStrictlySortedBy nat_cmp (keys_of ps) → values_of (from_seq seq ps) ≡ entries_from seq (values_of ps)
 unfolding IsStrictlySortedBy
 from_is seq [] k h = refl
 from_is seq (p ∷ ps) k h = from_at (nat_lt p.0 seq) seq p ps refl k.0.same h.0 (from_is seq ps k.1 h.1)
 
-keyed_at : (b : Bool) (p : ℕ × LogEntry) (ps : List (ℕ × LogEntry)) → IsKeyed p → AreKeyed ps → AreKeyed (cond b (p ∷ ps) ps)
+keyed_at : (b : Bool) (p : ℕ × LogEntry) (ps : List (ℕ × LogEntry)) → IsUnderSequence p → AreUnderSequences ps → AreUnderSequences (cond b (p ∷ ps) ps)
 keyed_at true p ps k later = (k, later)
 keyed_at false p ps k later = later
 
-keyed_from : (seq : ℕ) (ps : List (ℕ × LogEntry)) → AreKeyed ps → AreKeyed (from_seq seq ps)
+keyed_from : (seq : ℕ) (ps : List (ℕ × LogEntry)) → AreUnderSequences ps → AreUnderSequences (from_seq seq ps)
 keyed_from seq [] k = tt
 keyed_from seq (p ∷ ps) k = keyed_at (range_contains nat_cmp (Included seq) Unbounded p.0) p (from_seq seq ps) k.0 (keyed_from seq ps k.1)
 
 -- the first of the range, under its sequence
-pub first_from : (seq key : ℕ) (e : LogEntry) (rest ps : List (ℕ × LogEntry)) → AreKeyed ps → IsStrictlySortedBy nat_cmp (keys_of ps) → from_seq seq ps ≡ (key, e) ∷ rest →
+pub first_from : (seq key : ℕ) (e : LogEntry) (rest ps : List (ℕ × LogEntry)) → AreUnderSequences ps → IsStrictlySortedBy nat_cmp (keys_of ps) → from_seq seq ps ≡ (key, e) ∷ rest →
     (key ≡ e.head.seq) × (entries_from seq (values_of ps) ≡ e ∷ values_of rest)
 first_from seq key e rest ps k h is =
-    let its : AreKeyed ((key, e) ∷ rest) = subst AreKeyed is (keyed_from seq ps k) in
+    let its : AreUnderSequences ((key, e) ∷ rest) = subst AreUnderSequences is (keyed_from seq ps k) in
     (its.0.same, sym (from_is seq ps k h) ∙ ap values_of is)
 
-pub none_from : (seq : ℕ) (ps : List (ℕ × LogEntry)) → AreKeyed ps → IsStrictlySortedBy nat_cmp (keys_of ps) → from_seq seq ps ≡ [] → entries_from seq (values_of ps) ≡ []
+pub none_from : (seq : ℕ) (ps : List (ℕ × LogEntry)) → AreUnderSequences ps → IsStrictlySortedBy nat_cmp (keys_of ps) → from_seq seq ps ≡ [] → entries_from seq (values_of ps) ≡ []
 none_from seq ps k h is = sym (from_is seq ps k h) ∙ ap values_of is
 
 -- ---- what comes next

@@ -5,7 +5,7 @@ use Rattle.redo_spec.specs.LogHeader.{header_in, header_fault}
 use Rattle.log_registry.specs.declared.entry.LogEntry.{LogEntry}
 use Rattle.log_registry.specs.declared.fault.RegFault.{RegFault}
 use Rattle.log_registry.specs.declared.fault.RegFault.TheVariants as faults
-use Rattle.log_registry.specs.Registered.{entry_with, unless_refused}
+use Rattle.log_registry.specs.Registered.{entry_with, entry_unless_refused}
 
 -- the first `count` of these bytes are those of the log, which has so many
 abbrev pub IsReadTo : Option (List ℕ) → List ℕ → ℕ → Type 0
@@ -27,5 +27,5 @@ IsFront None front count = ⊤
 IsFront (Some bytes) front count = take count front ≡ take 40 bytes
 
 -- the entry of a log of this length that begins with these bytes
-abbrev pub judged : List ℕ → ℕ → ℕ → Result LogEntry RegFault
-judged front size seq = if nat_lt size 40 then Err (faults.BadHeader heads.Short) else unless_refused (header_fault seq front) (Ok (entry_with (header_in front) size))
+abbrev pub entry_of_front : List ℕ → ℕ → ℕ → Result LogEntry RegFault
+entry_of_front front size seq = if nat_lt size 40 then Err (faults.BadHeader heads.Short) else entry_unless_refused (header_fault seq front) (Ok (entry_with (header_in front) size))

@@ -2,10 +2,10 @@
 use Rattle.std.specs.Prelude.{◌≡◌, ℕ, ◌^◌, ◌<◌, List, [], ◌∷◌}
 use Rattle.log_registry.specs.declared.entry.LogEntry.{LogEntry}
 
-pub record IsKeyed (p : ℕ × LogEntry) : Type 0 where
+pub record IsUnderSequence (p : ℕ × LogEntry) : Type 0 where
   pub same : p.0 ≡ p.1.head.seq
   pub fits : p.1.head.seq < 2 ^ 32
 
-abbrev pub AreKeyed : List (ℕ × LogEntry) → Type 0
-AreKeyed [] = Unit {0}
-AreKeyed (p ∷ ps) = IsKeyed p × AreKeyed ps
+abbrev pub AreUnderSequences : List (ℕ × LogEntry) → Type 0
+AreUnderSequences [] = Unit {0}
+AreUnderSequences (p ∷ ps) = IsUnderSequence p × AreUnderSequences ps

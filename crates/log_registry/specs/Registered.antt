@@ -16,30 +16,30 @@ use Rattle.log_registry.specs.declared.next.Next.TheVariants as nexts
 abbrev pub of_database : ℕ → Header → ℕ → Result LogEntry RegFault
 of_database dbid head size = if head.dbid == dbid then Ok (record { head = head; length = size }) else Err refusals.WrongDb
 
-abbrev pub unless_refused : Option HeadFault → Result LogEntry RegFault → Result LogEntry RegFault
-unless_refused (Some fault) found = Err (refusals.BadHeader fault)
-unless_refused None found = found
+abbrev pub entry_unless_refused : Option HeadFault → Result LogEntry RegFault → Result LogEntry RegFault
+entry_unless_refused (Some fault) found = Err (refusals.BadHeader fault)
+entry_unless_refused None found = found
 
 abbrev pub entry_with : Header → ℕ → LogEntry
 entry_with head size = record { head = head; length = size }
 
 -- what a look at the log of this sequence tells, where it has these bytes or is absent
-abbrev pub looked : ℕ → Option (List ℕ) → Result LogEntry RegFault
-looked seq None = Err refusals.NoLog
-looked seq (Some bytes) = unless_refused (header_fault seq bytes) (Ok (entry_with (header_in bytes) (length bytes)))
+abbrev pub answer_of_look : ℕ → Option (List ℕ) → Result LogEntry RegFault
+answer_of_look seq None = Err refusals.NoLog
+answer_of_look seq (Some bytes) = entry_unless_refused (header_fault seq bytes) (Ok (entry_with (header_in bytes) (length bytes)))
 
 -- the same for this database
-abbrev pub inspected : ℕ → ℕ → Option (List ℕ) → Result LogEntry RegFault
-inspected seq dbid None = Err refusals.NoLog
-inspected seq dbid (Some bytes) = unless_refused (header_fault seq bytes) (of_database dbid (header_in bytes) (length bytes))
+abbrev pub answer_of_inspect : ℕ → ℕ → Option (List ℕ) → Result LogEntry RegFault
+answer_of_inspect seq dbid None = Err refusals.NoLog
+answer_of_inspect seq dbid (Some bytes) = entry_unless_refused (header_fault seq bytes) (of_database dbid (header_in bytes) (length bytes))
 
 -- an entry is what a look at its log tells
-abbrev pub IsOf : (ℕ → Option (List ℕ)) → LogEntry → Type 0
-IsOf logs e = inspected e.head.seq e.head.dbid (logs e.head.seq) ≡ Ok e
+abbrev pub IsToldBy : (ℕ → Option (List ℕ)) → LogEntry → Type 0
+IsToldBy logs e = answer_of_inspect e.head.seq e.head.dbid (logs e.head.seq) ≡ Ok e
 
-abbrev pub AreOf : (ℕ → Option (List ℕ)) → List LogEntry → Type 0
-AreOf logs [] = Unit {0}
-AreOf logs (e ∷ entries) = IsOf logs e × AreOf logs entries
+abbrev pub AreToldBy : (ℕ → Option (List ℕ)) → List LogEntry → Type 0
+AreToldBy logs [] = Unit {0}
+AreToldBy logs (e ∷ entries) = IsToldBy logs e × AreToldBy logs entries
 
 -- ---- registered logs, rising by their sequences
 

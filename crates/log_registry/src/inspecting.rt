@@ -2,8 +2,8 @@
 ghost use Rattle.std.specs.Prelude.{◌≡◌, ◌≢◌, ◌≤◌, length, Err, IfOk};
 ghost use Rattle.rl_ports.specs.Faults.{NoneCounted, Told, Rose};
 ghost use Rattle.log_registry.specs.declared.fault.RegFault.TheVariants.{ArchiveFault};
-ghost use Rattle.log_registry.specs.Front.{judged};
-ghost use Rattle.log_registry.specs.Registered.{looked, inspected};
+ghost use Rattle.log_registry.specs.Front.{entry_of_front};
+ghost use Rattle.log_registry.specs.Registered.{answer_of_look, answer_of_inspect};
 
 use crate::entry::LogEntry;
 use crate::fault::RegFault;
@@ -14,7 +14,7 @@ use rl_value::HeadFault;
 
 // The entry of a log of so many bytes that begins with these.
 fn judge(front: &[u8], size: u64, seq: u32) -> Result<LogEntry, RegFault>
-    ensures { result ≡ judged front.now size seq }
+    ensures { result ≡ entry_of_front front.now size seq }
 {
     if size < HEADER_LENGTH as u64 {
         return Err(RegFault::BadHeader(HeadFault::Short));
@@ -28,7 +28,7 @@ fn judge(front: &[u8], size: u64, seq: u32) -> Result<LogEntry, RegFault>
 /// Asks for the log's length and reads its header: the entry of this sequence, or the first reason why it is none. It
 /// takes no memory.
 pub fn look<A: Archive>(archive: &mut A, seq: u32) -> Result<LogEntry, RegFault>
-    ensures exact { Told (A.logs archive.old) (λ logs. result ≢ Err ArchiveFault → result ≡ looked seq (logs seq)) }
+    ensures exact { Told (A.logs archive.old) (λ logs. result ≢ Err ArchiveFault → result ≡ answer_of_look seq (logs seq)) }
     // Of an archive that does not tell its logs, too.
     ensures sequence { IfOk result (λ entry. entry.head.seq ≡ seq) }
     ensures long { IfOk result (λ entry. 40 ≤ entry.length) }
@@ -50,7 +50,7 @@ pub fn look<A: Archive>(archive: &mut A, seq: u32) -> Result<LogEntry, RegFault>
 /// Looks at a log of a database that is known already: the entry of this sequence and database, or the first reason why
 /// it is none. It takes no memory.
 pub fn inspect<A: Archive>(archive: &mut A, seq: u32, dbid: u32) -> Result<LogEntry, RegFault>
-    ensures exact { Told (A.logs archive.old) (λ logs. result ≢ Err ArchiveFault → result ≡ inspected seq dbid (logs seq)) }
+    ensures exact { Told (A.logs archive.old) (λ logs. result ≢ Err ArchiveFault → result ≡ answer_of_inspect seq dbid (logs seq)) }
     // Of an archive that does not tell its logs, too.
     ensures sequence { IfOk result (λ entry. entry.head.seq ≡ seq) }
     ensures long { IfOk result (λ entry. 40 ≤ entry.length) }

@@ -1,6 +1,6 @@
 //! The registered logs, in order of their sequences.
 ghost use Rattle.std.specs.Prelude.{◌≡◌, ◌+◌, ◌^◌, ◌==◌, if◌then◌else◌, ℕ, List, false, [], Option, None, Some, is_some, IfOk, OnOk, OnErr};
-ghost use Rattle.log_registry.specs.Registered.{entry_of, entries_from, next_in, following_of, with_log, count_of, IsOf, AreOf, IsRising, AreBelow};
+ghost use Rattle.log_registry.specs.Registered.{entry_of, entries_from, next_in, following_of, with_log, count_of, IsToldBy, AreToldBy, IsRising, AreBelow};
 
 use crate::entry::LogEntry;
 use crate::next::Next;
@@ -20,14 +20,14 @@ impl Model for Registry {
     ghost use Rattle.std.specs.Prelude.{List};
     ghost use Rattle.std.specs.Map.{values_of};
     ghost use Rattle.log_registry.specs.declared.entry.LogEntry.{LogEntry};
-    ghost use Rattle.log_registry.specs.Keyed.{AreKeyed};
+    ghost use Rattle.log_registry.specs.Keyed.{AreUnderSequences};
 
     ghost Value = { List LogEntry };
 
     ghost view = { λ r. values_of r.logs.entries };
 
     // Each under its own sequence.
-    ghost invariant = { λ r. AreKeyed r.logs.entries };
+    ghost invariant = { λ r. AreUnderSequences r.logs.entries };
 }
 
 impl Registry {
@@ -57,7 +57,7 @@ impl Registry {
         ensures found { OnOk result ((seq : ℕ) → entry_of seq self.new ≡ (if entry.head.seq == seq then Some entry else entry_of seq self.old)) }
         ensures rising { IsRising self.new }
         // Of an archive's logs the list stays one, and its records are counted together.
-        ensures archived { (logs : ℕ → Option (List ℕ)) → AreOf logs self.old → IsOf logs entry → OnOk result (AreOf logs self.new) }
+        ensures archived { (logs : ℕ → Option (List ℕ)) → AreToldBy logs self.old → IsToldBy logs entry → OnOk result (AreToldBy logs self.new) }
         ensures count { OnOk result (count_of self.new ≡ entry.head.count + count_of self.old) }
         ensures unchanged { OnErr result (self.new ≡ self.old) }
     {

@@ -5,12 +5,12 @@ use Rattle.circular_buffer.specs.Buffer.{last_item}
 use Rattle.redo_wire.specs.declared.raw.Raw.{Raw}
 use Rattle.preparers.specs.declared.slot.Slot.{Slot}
 use Rattle.preparers.specs.declared.slot.Slot.TheVariants as slots
-use Rattle.preparers.specs.Ring.{raw_at}
+use Rattle.preparers.specs.Ring.{raw_at_index}
 use Rattle.preparers.specs.Pending.{Pending, Each, HasNumber, IsWindow, raws_of}
-use Rattle.preparers.specs.Steps.{IsOf, StandsFor}
+use Rattle.preparers.specs.Steps.{HoldsRawOf, IsWindowOf}
 use Rattle.std.proofs.lemmas.Option.{get_or_from_slice_get, slice_get_within}
 
-pub least-here : (xs : List Slot) (k : ℕ) (raw : Raw) → raw_at xs k ≡ Some raw → raws_of (take k xs) ≡ [] → slice_get (raws_of xs) 0 ≡ Some raw
+pub least-here : (xs : List Slot) (k : ℕ) (raw : Raw) → raw_at_index xs k ≡ Some raw → raws_of (take k xs) ≡ [] → slice_get (raws_of xs) 0 ≡ Some raw
 least-here [] k raw g h = cc
 least-here (slots.Raw r ∷ xs) zero raw g h = g
 least-here (slots.Lent ∷ xs) zero raw g h = cc
@@ -23,7 +23,7 @@ last-cons : (r : Raw) (ys : List Raw) (raw : Raw) → last_item ys ≡ Some raw 
 last-cons r [] raw h = cc
 last-cons r (y ∷ ys) raw h = let e : length (r ∷ y ∷ ys) - 1 ≡ suc (length (y ∷ ys) - 1) = omega arith in rw e h
 
-pub greatest-here : (xs : List Slot) (k : ℕ) (raw : Raw) → raw_at xs k ≡ Some raw → raws_of (drop (suc k) xs) ≡ [] → last_item (raws_of xs) ≡ Some raw
+pub greatest-here : (xs : List Slot) (k : ℕ) (raw : Raw) → raw_at_index xs k ≡ Some raw → raws_of (drop (suc k) xs) ≡ [] → last_item (raws_of xs) ≡ Some raw
 greatest-here [] k raw g h = cc
 greatest-here (slots.Raw r ∷ xs) zero raw g h = rw h g
 greatest-here (slots.Lent ∷ xs) zero raw g h = cc
@@ -75,7 +75,7 @@ greatest-of n (slots.Prepared p ∷ xs) raw e g k d l = greatest-of (n + 1) xs r
 
 -- ---- looking for the first one, and for the last
 
-pub none-so-far : (xs : List Slot) (k : ℕ) → raws_of (take k xs) ≡ [] → is_some (raw_at xs k) ≡ false → raws_of (take (suc k) xs) ≡ []
+pub none-so-far : (xs : List Slot) (k : ℕ) → raws_of (take k xs) ≡ [] → is_some (raw_at_index xs k) ≡ false → raws_of (take (suc k) xs) ≡ []
 none-so-far [] k h g = refl
 none-so-far (slots.Raw r ∷ xs) zero h g = cc
 none-so-far (slots.Lent ∷ xs) zero h g = refl
@@ -84,7 +84,7 @@ none-so-far (slots.Raw r ∷ xs) (suc k) h g = cc
 none-so-far (slots.Lent ∷ xs) (suc k) h g = none-so-far xs k h g
 none-so-far (slots.Prepared p ∷ xs) (suc k) h g = none-so-far xs k h g
 
-pub none-behind : (xs : List Slot) (k : ℕ) → raws_of (drop (suc k) xs) ≡ [] → is_some (raw_at xs k) ≡ false → raws_of (drop k xs) ≡ []
+pub none-behind : (xs : List Slot) (k : ℕ) → raws_of (drop (suc k) xs) ≡ [] → is_some (raw_at_index xs k) ≡ false → raws_of (drop k xs) ≡ []
 none-behind [] zero h g = refl
 none-behind [] (suc k) h g = refl
 none-behind (slots.Raw r ∷ xs) zero h g = cc
@@ -94,7 +94,7 @@ none-behind (x ∷ xs) (suc k) h g = none-behind xs k h g
 
 -- ---- the records that a window stands for
 
-among : (raws : ℕ → Raw) (n : ℕ) (xs : List Slot) → Each HasNumber n xs → Each (IsOf raws) n xs → All (λ raw. raw ≡ raws raw.rec) (raws_of xs)
+among : (raws : ℕ → Raw) (n : ℕ) (xs : List Slot) → Each HasNumber n xs → Each (HoldsRawOf raws) n xs → All (λ raw. raw ≡ raws raw.rec) (raws_of xs)
 among raws n [] e f k d l = absurd (omega (arith, l))
 among raws n (slots.Raw r ∷ xs) e f zero d l = f.0 ∙ ap raws (sym e.0)
 among raws n (slots.Raw r ∷ xs) e f (suc k) d l = among raws (n + 1) xs e.1 f.1 k d (omega (arith, l))
@@ -105,6 +105,6 @@ at-one : (P : Raw → Type 0) (ys : List Raw) (j : ℕ) (raw : Raw) → All P ys
 at-one P ys j raw a g = rw (sym (get_or_from_slice_get ys j raw raw g)) (a j raw (slice_get_within ys j raw g))
 
 -- a cut record of a window is the one of its number
-pub is-of : (raws : ℕ → Raw) (w : Pending) (j : ℕ) (o : Option Raw) → IsWindow w → StandsFor raws w → slice_get (raws_of w.slots) j ≡ o → IfSome o (λ raw. raw ≡ raws raw.rec)
+pub is-of : (raws : ℕ → Raw) (w : Pending) (j : ℕ) (o : Option Raw) → IsWindow w → IsWindowOf raws w → slice_get (raws_of w.slots) j ≡ o → IfSome o (λ raw. raw ≡ raws raw.rec)
 is-of raws w j None i f g = tt
 is-of raws w j (Some raw) i f g = at-one (λ raw. raw ≡ raws raw.rec) (raws_of w.slots) j raw (among raws w.first w.slots i.numbered f) g

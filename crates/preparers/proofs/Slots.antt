@@ -5,8 +5,8 @@ use Rattle.redo_wire.specs.declared.raw.Raw.{Raw}
 use Rattle.preparers.specs.declared.piece.Piece.{Piece}
 use Rattle.preparers.specs.declared.slot.Slot.{Slot}
 use Rattle.preparers.specs.declared.slot.Slot.TheVariants as slots
-use Rattle.preparers.specs.Ring.{raw_at}
-use Rattle.preparers.specs.Pending.{Each, prepared_first}
+use Rattle.preparers.specs.Ring.{raw_at_index}
+use Rattle.preparers.specs.Pending.{Each, first_prepared}
 
 -- one slot more
 pub each-snoc : (P : ℕ → Slot → Type 0) (n m : ℕ) (xs : List Slot) (x : Slot) → m ≡ n + length xs → Each P n xs → P m x → Each P n (xs ++ x ∷ [])
@@ -25,7 +25,7 @@ each-tail P n [] e = tt
 each-tail P n (y ∷ ys) e = e.1
 
 -- the slot of a cut record
-pub each-raw : (P : ℕ → Slot → Type 0) (n m : ℕ) (xs : List Slot) (k : ℕ) (raw : Raw) → m ≡ n + k → Each P n xs → raw_at xs k ≡ Some raw → P m (slots.Raw raw)
+pub each-raw : (P : ℕ → Slot → Type 0) (n m : ℕ) (xs : List Slot) (k : ℕ) (raw : Raw) → m ≡ n + k → Each P n xs → raw_at_index xs k ≡ Some raw → P m (slots.Raw raw)
 each-raw P n m [] k raw q e g = cc
 each-raw P n m (slots.Raw r ∷ ys) zero raw q e g = let h : m ≡ n = omega (arith, q) in let s : raw ≡ r = cc in rw h (rw s e.0)
 each-raw P n m (slots.Lent ∷ ys) zero raw q e g = cc
@@ -33,7 +33,7 @@ each-raw P n m (slots.Prepared p ∷ ys) zero raw q e g = cc
 each-raw P n m (y ∷ ys) (suc k) raw q e g = each-raw P (n + 1) m ys k raw (omega (arith, q)) e.1 g
 
 -- the piece that is drawn
-pub each-first : (P : ℕ → Slot → Type 0) (n : ℕ) (xs : List Slot) (piece : Piece) → Each P n xs → prepared_first xs ≡ Some piece → P n (slots.Prepared piece)
+pub each-first : (P : ℕ → Slot → Type 0) (n : ℕ) (xs : List Slot) (piece : Piece) → Each P n xs → first_prepared xs ≡ Some piece → P n (slots.Prepared piece)
 each-first P n [] piece e g = cc
 each-first P n (slots.Raw r ∷ ys) piece e g = cc
 each-first P n (slots.Lent ∷ ys) piece e g = cc

@@ -8,8 +8,8 @@ use Rattle.redo_wire.specs.declared.raw.Raw.{Raw}
 use Rattle.preparers.specs.declared.piece.Piece.{Piece}
 use Rattle.preparers.specs.declared.slot.Slot.{Slot}
 use Rattle.preparers.specs.declared.slot.Slot.TheVariants as slots
-use Rattle.preparers.specs.Ring.{raw_of, raw_at, lent_from, lent_at, is_lent_of, is_lent_at, prepared_from, prepared_at}
-use Rattle.preparers.specs.Pending.{Pending, pending, HasNumber, IsWhole, IsWindow, raws_of, least_raw, greatest_raw, lent, is_lent, with_slot, prepared, prepared_first}
+use Rattle.preparers.specs.Ring.{raw_of, raw_at_index, lent_from, lent_at, is_lent_of, is_lent_at, prepared_from, prepared_at}
+use Rattle.preparers.specs.Pending.{Pending, pending, HasNumber, IsWhole, IsWindow, raws_of, least_raw, greatest_raw, after_lend, is_lent, with_slot, after_prepared, first_prepared}
 use Rattle.preparers.proofs.Raws.{least-here, greatest-here, least-of, greatest-of}
 use Rattle.preparers.proofs.Slots.{each-snoc, each-set, each-raw, set-same}
 
@@ -36,7 +36,7 @@ window-set w m k x q i n h =
     }
 
 -- the slots once the cut record at this index is given away are those in which its number is lent
-pub lends : (w : Pending) (k : ℕ) (raw : Raw) → IsWindow w → raw_at w.slots k ≡ Some raw → pending w.first (lent_at w.slots k) ≡ lent (Some raw) w
+pub lends : (w : Pending) (k : ℕ) (raw : Raw) → IsWindow w → raw_at_index w.slots k ≡ Some raw → pending w.first (lent_at w.slots k) ≡ after_lend (Some raw) w
 lends w k raw i g =
     let n : raw.rec - w.first ≡ k = omega (arith, each-raw HasNumber w.first (w.first + k) w.slots k raw refl i.numbered g) in
     rw n (rw (lent-of (slice_get w.slots k) w.slots k raw g) refl)
@@ -45,20 +45,20 @@ some-of : (o : Option Raw) → IsTrue (is_some o) → (raw : Raw) × (o ≡ Some
 some-of None s = absurd cc
 some-of (Some raw) s = (raw, refl)
 
-pub window-lent : (w : Pending) (k : ℕ) → IsTrue (is_some (raw_at w.slots k)) → IsWindow w → IsWindow (pending w.first (lent_at w.slots k))
+pub window-lent : (w : Pending) (k : ℕ) → IsTrue (is_some (raw_at_index w.slots k)) → IsWindow w → IsWindow (pending w.first (lent_at w.slots k))
 window-lent w k s i =
-    let p = some-of (raw_at w.slots k) s in
+    let p = some-of (raw_at_index w.slots k) s in
     rw (lent-of (slice_get w.slots k) w.slots k p.0 p.1) (window-set w (w.first + k) k slots.Lent refl i tt tt)
 
-pub is-lent : (w : Pending) (k : ℕ) → IsTrue (is_some (raw_at w.slots k)) → IsWindow w → pending w.first (lent_at w.slots k) ≡ lent (raw_at w.slots k) w
-is-lent w k s i = let p = some-of (raw_at w.slots k) s in rw p.1 (lends w k p.0 i p.1)
+pub is-lent : (w : Pending) (k : ℕ) → IsTrue (is_some (raw_at_index w.slots k)) → IsWindow w → pending w.first (lent_at w.slots k) ≡ after_lend (raw_at_index w.slots k) w
+is-lent w k s i = let p = some-of (raw_at_index w.slots k) s in rw p.1 (lends w k p.0 i p.1)
 
-pub is-least : (w : Pending) (k : ℕ) → IsTrue (is_some (raw_at w.slots k)) → raws_of (take k w.slots) ≡ [] → raw_at w.slots k ≡ least_raw w
-is-least w k s h = let p = some-of (raw_at w.slots k) s in p.1 ∙ sym (least-here w.slots k p.0 p.1 h)
+pub is-least : (w : Pending) (k : ℕ) → IsTrue (is_some (raw_at_index w.slots k)) → raws_of (take k w.slots) ≡ [] → raw_at_index w.slots k ≡ least_raw w
+is-least w k s h = let p = some-of (raw_at_index w.slots k) s in p.1 ∙ sym (least-here w.slots k p.0 p.1 h)
 
-pub is-greatest : (w : Pending) (k : ℕ) → IsTrue (is_some (raw_at w.slots k)) → raws_of (drop (k + 1) w.slots) ≡ [] → raw_at w.slots k ≡ greatest_raw w
+pub is-greatest : (w : Pending) (k : ℕ) → IsTrue (is_some (raw_at_index w.slots k)) → raws_of (drop (k + 1) w.slots) ≡ [] → raw_at_index w.slots k ≡ greatest_raw w
 is-greatest w k s h =
-    let p = some-of (raw_at w.slots k) s in
+    let p = some-of (raw_at_index w.slots k) s in
     let e : k + 1 ≡ suc k = omega arith in
     p.1 ∙ sym (greatest-here w.slots k p.0 p.1 (rw e at h))
 
@@ -71,7 +71,7 @@ greatest-is-greatest w None i g = tt
 greatest-is-greatest w (Some raw) i g = greatest-of w.first w.slots raw i.numbered (sym g)
 
 -- the bytes of a record that is lent are one record
-pub is-whole : (w : Pending) (k : ℕ) (o : Option Raw) → IsWindow w → raw_at w.slots k ≡ o → IfSome o (λ raw. first_record raw.bytes ≡ Ok (raw.bytes, []))
+pub is-whole : (w : Pending) (k : ℕ) (o : Option Raw) → IsWindow w → raw_at_index w.slots k ≡ o → IfSome o (λ raw. first_record raw.bytes ≡ Ok (raw.bytes, []))
 is-whole w k None i g = tt
 is-whole w k (Some raw) i g = each-raw IsWhole w.first (w.first + k) w.slots k raw refl i.whole g
 
@@ -95,14 +95,14 @@ takes w piece h = rw (begun w.first piece.rec h) refl
 pub too-low : (w : Pending) (piece : Piece) → piece.rec < w.first → is_lent piece.rec w ≡ false
 too-low w piece h = rw (not-begun w.first piece.rec h) refl
 
-pub stays : (w : Pending) (piece : Piece) → piece.rec < w.first → prepared piece w ≡ w
+pub stays : (w : Pending) (piece : Piece) → piece.rec < w.first → after_prepared piece w ≡ w
 stays w piece h = rw (too-low w piece h) refl
 
 prepared-if : (b : Bool) (w : Pending) (piece : Piece) → pending w.first (if b then slice_set w.slots (piece.rec - w.first) (slots.Prepared piece) else w.slots) ≡ (if b then with_slot piece.rec (slots.Prepared piece) w else w)
 prepared-if true w piece = refl
 prepared-if false w piece = refl
 
-pub put-back : (w : Pending) (piece : Piece) → w.first ≤ piece.rec → pending w.first (prepared_at piece w.slots (piece.rec - w.first)) ≡ prepared piece w
+pub put-back : (w : Pending) (piece : Piece) → w.first ≤ piece.rec → pending w.first (prepared_at piece w.slots (piece.rec - w.first)) ≡ after_prepared piece w
 put-back w piece h =
     rw (prepared-of (slice_get w.slots (piece.rec - w.first)) w.slots (piece.rec - w.first) piece refl)
     (rw (begun w.first piece.rec h) (prepared-if (is_lent_at w.slots (piece.rec - w.first)) w piece))
@@ -133,6 +133,6 @@ window-posted first xs raw i q r l h =
       fits = rw e (omega (arith, q, r));
     }
 
-pub window-drawn : (first : ℕ) (xs : List Slot) (piece : Piece) → IsWindow (pending first xs) → prepared_first xs ≡ Some piece → IsWindow (pending (first + 1) (drop 1 xs))
+pub window-drawn : (first : ℕ) (xs : List Slot) (piece : Piece) → IsWindow (pending first xs) → first_prepared xs ≡ Some piece → IsWindow (pending (first + 1) (drop 1 xs))
 window-drawn first [] piece i g = absurd cc
 window-drawn first (x ∷ xs) piece i g = record { few = omega (arith, i.few); numbered = i.numbered.1; whole = i.whole.1; fits = omega (arith, i.fits) }

@@ -33,22 +33,22 @@ with_slot n slot w = pending w.first (slice_set w.slots (n - w.first) slot)
 
 -- ---- posting
 
-abbrev pub posted_or : Bool → Bool → Raw → Result (Unit {0}) Unposted
-posted_or false room raw = Err (NotNext raw)
-posted_or true false raw = Err (Full raw)
-posted_or true true raw = Ok tt
+abbrev pub posting_or : Bool → Bool → Raw → Result (Unit {0}) Unposted
+posting_or false room raw = Err (NotNext raw)
+posting_or true false raw = Err (Full raw)
+posting_or true true raw = Ok tt
 
 -- what posting answers: the record has to be the next one, and then there has to be room
 abbrev pub posting : Raw → Pending → Result (Unit {0}) Unposted
-posting raw w = posted_or (raw.rec == next_number w) (nat_lt (length w.slots) 64) raw
+posting raw w = posting_or (raw.rec == next_number w) (nat_lt (length w.slots) 64) raw
 
-abbrev pub posted_if : Result (Unit {0}) Unposted → Raw → Pending → Pending
-posted_if (Ok done) raw w = pending w.first (w.slots ++ slots.Raw raw ∷ [])
-posted_if (Err refused) raw w = w
+abbrev pub after_post_if : Result (Unit {0}) Unposted → Raw → Pending → Pending
+after_post_if (Ok done) raw w = pending w.first (w.slots ++ slots.Raw raw ∷ [])
+after_post_if (Err refused) raw w = w
 
 -- the window once this record is posted
-abbrev pub posted : Raw → Pending → Pending
-posted raw w = posted_if (posting raw w) raw w
+abbrev pub after_post : Raw → Pending → Pending
+after_post raw w = after_post_if (posting raw w) raw w
 
 -- ---- lending
 
@@ -67,9 +67,9 @@ abbrev pub greatest_raw : Pending → Option Raw
 greatest_raw w = last_item (raws_of w.slots)
 
 -- the window once this record is lent
-abbrev pub lent : Option Raw → Pending → Pending
-lent None w = w
-lent (Some raw) w = with_slot raw.rec slots.Lent w
+abbrev pub after_lend : Option Raw → Pending → Pending
+after_lend None w = w
+after_lend (Some raw) w = with_slot raw.rec slots.Lent w
 
 -- ---- taking a piece back
 
@@ -78,28 +78,28 @@ abbrev pub is_lent : ℕ → Pending → Bool
 is_lent n w = nat_le w.first n && is_lent_at w.slots (n - w.first)
 
 -- the window once this piece has come back: a piece whose number is not lent changes nothing
-abbrev pub prepared : Piece → Pending → Pending
-prepared piece w = if is_lent piece.rec w then with_slot piece.rec (slots.Prepared piece) w else w
+abbrev pub after_prepared : Piece → Pending → Pending
+after_prepared piece w = if is_lent piece.rec w then with_slot piece.rec (slots.Prepared piece) w else w
 
 -- ---- drawing
 
-abbrev pub prepared_first : List Slot → Option Piece
-prepared_first [] = None
-prepared_first (slots.Raw raw ∷ rest) = None
-prepared_first (slots.Lent ∷ rest) = None
-prepared_first (slots.Prepared piece ∷ rest) = Some piece
+abbrev pub first_prepared : List Slot → Option Piece
+first_prepared [] = None
+first_prepared (slots.Raw raw ∷ rest) = None
+first_prepared (slots.Lent ∷ rest) = None
+first_prepared (slots.Prepared piece ∷ rest) = Some piece
 
 -- the piece of the first number, where it is prepared
-abbrev pub drawn : Pending → Option Piece
-drawn w = prepared_first w.slots
+abbrev pub drawn_piece : Pending → Option Piece
+drawn_piece w = first_prepared w.slots
 
-abbrev pub drawn_off : Option Piece → Pending → Pending
-drawn_off None w = w
-drawn_off (Some piece) w = pending (w.first + 1) (drop 1 w.slots)
+abbrev pub without_drawn : Option Piece → Pending → Pending
+without_drawn None w = w
+without_drawn (Some piece) w = pending (w.first + 1) (drop 1 w.slots)
 
 -- the window once that piece is drawn
 abbrev pub after_draw : Pending → Pending
-after_draw w = drawn_off (drawn w) w
+after_draw w = without_drawn (drawn_piece w) w
 
 -- ---- what holds of each window
 

@@ -10,8 +10,8 @@ raw_of None = None
 raw_of (Some slot) = raw_in slot
 
 -- the cut record at this index
-abbrev pub raw_at : List Slot → ℕ → Option Raw
-raw_at slots at = raw_of (slice_get slots at)
+abbrev pub raw_at_index : List Slot → ℕ → Option Raw
+raw_at_index slots at = raw_of (slice_get slots at)
 
 abbrev pub lent_from : Option Slot → List Slot → ℕ → List Slot
 lent_from None slots at = slots

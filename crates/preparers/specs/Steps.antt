@@ -6,7 +6,7 @@ use Rattle.preparers.specs.declared.piece.Piece.{Piece}
 use Rattle.preparers.specs.declared.slot.Slot.{Slot}
 use Rattle.preparers.specs.declared.slot.Slot.TheVariants as slots
 use Rattle.preparers.specs.Pieces.{piece_of}
-use Rattle.preparers.specs.Pending.{Pending, posted, least_raw, greatest_raw, lent, prepared, drawn, after_draw, Each}
+use Rattle.preparers.specs.Pending.{Pending, after_post, least_raw, greatest_raw, after_lend, after_prepared, drawn_piece, after_draw, Each}
 
 -- a call of a window
 pub data Step : Type 0 where
@@ -17,56 +17,56 @@ pub data Step : Type 0 where
   Draw : Step
 
 -- the window after a call
-abbrev pub after : Step → Pending → Pending
-after (Post raw) w = posted raw w
-after Lend w = lent (least_raw w) w
-after LendLast w = lent (greatest_raw w) w
-after (Take piece) w = prepared piece w
-after Draw w = after_draw w
+abbrev pub after_step : Step → Pending → Pending
+after_step (Post raw) w = after_post raw w
+after_step Lend w = after_lend (least_raw w) w
+after_step LendLast w = after_lend (greatest_raw w) w
+after_step (Take piece) w = after_prepared piece w
+after_step Draw w = after_draw w
 
 -- the piece that a call draws
-abbrev pub drawn_by : Step → Pending → List Piece
-drawn_by (Post raw) w = []
-drawn_by Lend w = []
-drawn_by LendLast w = []
-drawn_by (Take piece) w = []
-drawn_by Draw w = option_to_list (drawn w)
+abbrev pub pieces_of_step : Step → Pending → List Piece
+pieces_of_step (Post raw) w = []
+pieces_of_step Lend w = []
+pieces_of_step LendLast w = []
+pieces_of_step (Take piece) w = []
+pieces_of_step Draw w = option_to_list (drawn_piece w)
 
 -- the window after these calls
-abbrev pub after_all : List Step → Pending → Pending
-after_all [] w = w
-after_all (step ∷ steps) w = after_all steps (after step w)
+abbrev pub after_steps : List Step → Pending → Pending
+after_steps [] w = w
+after_steps (step ∷ steps) w = after_steps steps (after_step step w)
 
 -- the pieces that these calls draw, in their order
-abbrev pub drawn_in : List Step → Pending → List Piece
-drawn_in [] w = []
-drawn_in (step ∷ steps) w = drawn_by step w ++ drawn_in steps (after step w)
+abbrev pub pieces_of_steps : List Step → Pending → List Piece
+pieces_of_steps [] w = []
+pieces_of_steps (step ∷ steps) w = pieces_of_step step w ++ pieces_of_steps steps (after_step step w)
 
 -- so many numbers from this one on, each one more than the one before it
-abbrev pub numbers_from : ℕ → ℕ → List ℕ
-numbers_from n zero = []
-numbers_from n (suc count) = n ∷ numbers_from (n + 1) count
+abbrev pub count_up : ℕ → ℕ → List ℕ
+count_up n zero = []
+count_up n (suc count) = n ∷ count_up (n + 1) count
 
 -- ---- the records that a window stands for: one for each number
 
 -- what it holds is the record of this number, cut or decoded
-abbrev pub IsOf : (ℕ → Raw) → ℕ → Slot → Type 0
-IsOf raws n (slots.Raw raw) = raw ≡ raws n
-IsOf raws n slots.Lent = Unit {0}
-IsOf raws n (slots.Prepared piece) = piece ≡ piece_of (raws n)
+abbrev pub HoldsRawOf : (ℕ → Raw) → ℕ → Slot → Type 0
+HoldsRawOf raws n (slots.Raw raw) = raw ≡ raws n
+HoldsRawOf raws n slots.Lent = Unit {0}
+HoldsRawOf raws n (slots.Prepared piece) = piece ≡ piece_of (raws n)
 
 -- each record of the window is the one of its number
-abbrev pub StandsFor : (ℕ → Raw) → Pending → Type 0
-StandsFor raws w = Each (IsOf raws) w.first w.slots
+abbrev pub IsWindowOf : (ℕ → Raw) → Pending → Type 0
+IsWindowOf raws w = Each (HoldsRawOf raws) w.first w.slots
 
 -- what is posted is the record of its number, and what is taken back is its decoding
-abbrev pub Fits : (ℕ → Raw) → Step → Type 0
-Fits raws (Post raw) = raw ≡ raws raw.rec
-Fits raws Lend = Unit {0}
-Fits raws LendLast = Unit {0}
-Fits raws (Take piece) = piece ≡ piece_of (raws piece.rec)
-Fits raws Draw = Unit {0}
+abbrev pub IsStepOf : (ℕ → Raw) → Step → Type 0
+IsStepOf raws (Post raw) = raw ≡ raws raw.rec
+IsStepOf raws Lend = Unit {0}
+IsStepOf raws LendLast = Unit {0}
+IsStepOf raws (Take piece) = piece ≡ piece_of (raws piece.rec)
+IsStepOf raws Draw = Unit {0}
 
-abbrev pub AllFit : (ℕ → Raw) → List Step → Type 0
-AllFit raws [] = Unit {0}
-AllFit raws (step ∷ steps) = Fits raws step × AllFit raws steps
+abbrev pub AreStepsOf : (ℕ → Raw) → List Step → Type 0
+AreStepsOf raws [] = Unit {0}
+AreStepsOf raws (step ∷ steps) = IsStepOf raws step × AreStepsOf raws steps

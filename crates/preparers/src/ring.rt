@@ -4,7 +4,7 @@ ghost use Rattle.std.specs.Prelude.{◌≡◌, ◌+◌, ◌<◌, ◌≤◌, ◌+
 ghost use Rattle.circular_buffer.specs.Buffer.{buffer};
 ghost use Rattle.preparers.specs.Pieces.{is_lent_slot};
 ghost use Rattle.preparers.specs.Pending.{raws_of};
-ghost use Rattle.preparers.specs.Ring.{raw_at, lent_at, is_lent_at, prepared_at};
+ghost use Rattle.preparers.specs.Ring.{raw_at_index, lent_at, is_lent_at, prepared_at};
 
 use crate::piece::Piece;
 use crate::slot::Slot;
@@ -14,7 +14,7 @@ use rl_value::NoMemory;
 
 // Whether a cut record stands here.
 fn is_raw_at(slots: &HeapCircularBuffer<Slot>, at: usize) -> bool
-    ensures { result ≡ is_some (raw_at slots.now.items at) }
+    ensures { result ≡ is_some (raw_at_index slots.now.items at) }
 {
     match slots.get(at) {
         Some(slot) => slot.is_raw(),
@@ -24,7 +24,7 @@ fn is_raw_at(slots: &HeapCircularBuffer<Slot>, at: usize) -> bool
 
 /// Where the first cut record stands.
 pub(crate) fn least_at(slots: &HeapCircularBuffer<Slot>) -> Option<usize>
-    ensures found { IfSome result (λ at. IsTrue (is_some (raw_at slots.now.items at)) × (raws_of (take at slots.now.items) ≡ [])) }
+    ensures found { IfSome result (λ at. IsTrue (is_some (raw_at_index slots.now.items at)) × (raws_of (take at slots.now.items) ≡ [])) }
     ensures none { IfNone result (raws_of slots.now.items ≡ []) }
 {
     for at in 0..slots.len() {
@@ -37,7 +37,7 @@ pub(crate) fn least_at(slots: &HeapCircularBuffer<Slot>) -> Option<usize>
 
 /// Where the last cut record stands.
 pub(crate) fn greatest_at(slots: &HeapCircularBuffer<Slot>) -> Option<usize>
-    ensures found { IfSome result (λ at. IsTrue (is_some (raw_at slots.now.items at)) × (raws_of (drop (at + 1) slots.now.items) ≡ [])) }
+    ensures found { IfSome result (λ at. IsTrue (is_some (raw_at_index slots.now.items at)) × (raws_of (drop (at + 1) slots.now.items) ≡ [])) }
     ensures none { IfNone result (raws_of slots.now.items ≡ []) }
 {
     let mut end = slots.len();
@@ -52,7 +52,7 @@ pub(crate) fn greatest_at(slots: &HeapCircularBuffer<Slot>) -> Option<usize>
 
 /// Gives away the cut record that stands here.
 pub(crate) fn lend_at(slots: &mut HeapCircularBuffer<Slot>, at: usize) -> Option<Raw>
-    ensures raw { result ≡ raw_at slots.old.items at }
+    ensures raw { result ≡ raw_at_index slots.old.items at }
     ensures lent { slots.new ≡ buffer (lent_at slots.old.items at) slots.old.capacity }
 {
     slots.get_mut(at)?.lend()

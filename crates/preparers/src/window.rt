@@ -5,7 +5,7 @@
 
 ghost use Rattle.std.specs.Prelude.{◌≡◌, ◌≤◌, [], length, All, Ok, IfOk, IfSome};
 ghost use Rattle.redo_vec.specs.Cutting.{first_record};
-ghost use Rattle.preparers.specs.Pending.{Pending, none_pending, posting, posted, raws_of, least_raw, greatest_raw, lent, is_lent, prepared, drawn, after_draw, IsWindow};
+ghost use Rattle.preparers.specs.Pending.{Pending, none_pending, posting, after_post, raws_of, least_raw, greatest_raw, after_lend, is_lent, after_prepared, drawn_piece, after_draw, IsWindow};
 
 use crate::piece::Piece;
 use crate::ring::{copied, greatest_at, least_at, lend_at, put_at};
@@ -79,7 +79,7 @@ impl Window {
         // The cutter takes its bytes as one record.
         requires whole { first_record raw.bytes ≡ Ok (raw.bytes, []) }
         ensures exact { result ≡ posting raw self.old }
-        ensures posted { self.new ≡ posted raw self.old }
+        ensures posted { self.new ≡ after_post raw self.old }
     {
         if u128::from(raw.rec) != self.first + self.slots.len() as u128 {
             return Err(Unposted::NotNext(raw));
@@ -94,7 +94,7 @@ impl Window {
     /// Lends the cut record of least number.
     pub fn lend(&mut self) -> Option<Raw>
         ensures exact { result ≡ least_raw self.old }
-        ensures lent { self.new ≡ lent result self.old }
+        ensures lent { self.new ≡ after_lend result self.old }
         ensures least { IfSome result (λ raw. All (λ other. raw.rec ≤ other.rec) (raws_of self.old.slots)) }
         // The cutter takes its bytes as one record.
         ensures whole { IfSome result (λ raw. first_record raw.bytes ≡ Ok (raw.bytes, [])) }
@@ -107,7 +107,7 @@ impl Window {
     /// Lends the cut record of greatest number.
     pub fn lend_last(&mut self) -> Option<Raw>
         ensures exact { result ≡ greatest_raw self.old }
-        ensures lent { self.new ≡ lent result self.old }
+        ensures lent { self.new ≡ after_lend result self.old }
         ensures greatest { IfSome result (λ raw. All (λ other. other.rec ≤ raw.rec) (raws_of self.old.slots)) }
         // The cutter takes its bytes as one record.
         ensures whole { IfSome result (λ raw. first_record raw.bytes ≡ Ok (raw.bytes, [])) }
@@ -120,7 +120,7 @@ impl Window {
     /// Takes back the piece of a lent record. A piece whose number is not lent is dropped.
     pub fn prepared(&mut self, piece: Piece) -> bool
         ensures exact { result ≡ is_lent piece.rec self.old }
-        ensures prepared { self.new ≡ prepared piece self.old }
+        ensures prepared { self.new ≡ after_prepared piece self.old }
     {
         let Some(at) = u128::from(piece.rec).checked_sub(self.first) else {
             return false;
@@ -130,7 +130,7 @@ impl Window {
 
     /// Draws the piece of the first number, where it is prepared.
     pub fn draw(&mut self) -> Option<Piece>
-        ensures exact { result ≡ drawn self.old }
+        ensures exact { result ≡ drawn_piece self.old }
         ensures drawn { self.new ≡ after_draw self.old }
         ensures number { IfSome result (λ piece. piece.rec ≡ self.old.first) }
     {

@@ -15,7 +15,7 @@ use Rattle.redo_spec.specs.Tables.{Rows, RowsById, rows_by, assembled, values_at
 use Rattle.row_apply.specs.Soundness.{AreSound, AreSoundRows}
 use Rattle.row_apply.proofs.Orders.{key_is, key_self, row_is, row_self}
 use Rattle.primary.specs.Checked.{value_leads, leads_from, row_holds, rows_hold, tables_hold}
-use Rattle.primary.specs.Unique.{lead_of, leads, unique_at, is_key, has_from, has_unique, LeadsToRows, IsIndexed}
+use Rattle.primary.specs.Unique.{lead_of, is_lead, unique_at, is_value_of, has_from, has_unique, LeadsToRows, IsIndexed}
 use Rattle.primary.specs.declared.unique_index.UniqueIndex.{UniqueIndex}
 use Rattle.primary.proofs.MapLemmas.{left_true, right_true, both_true}
 use Rattle.primary.proofs.TableLaws.{equal_numbers}
@@ -24,12 +24,12 @@ use Rattle.primary.proofs.WriteLaws.{none_below}
 
 -- ---- the unique values of a row
 
-leads_is : (key : List Value) (o : Option (List Value)) → leads key o ≡ true → o ≡ Some key
+leads_is : (key : List Value) (o : Option (List Value)) → is_lead key o ≡ true → o ≡ Some key
 leads_is key None e = absurd (cc)
 leads_is key (Some found) e = ap Some (row_is found key e)
 
-is_led : (key : List Value) (o : Option (List Value)) → o ≡ Some key → leads key o ≡ true
-is_led key o e = ap (leads key) e ∙ row_self key
+is_led : (key : List Value) (o : Option (List Value)) → o ≡ Some key → is_lead key o ≡ true
+is_led key o e = ap (is_lead key) e ∙ row_self key
 
 -- one of two tests holds
 one_of : (a b : Bool) → (a || b) ≡ true → (A : Type 0) → (a ≡ true → A) → (b ≡ true → A) → A
@@ -44,11 +44,11 @@ first_of : (a b : Bool) → a ≡ true → (a || b) ≡ true
 first_of true b e = refl
 first_of false b e = absurd (cc)
 
-one_leads : (index : UniqueIndex) (key : List Value) (u : Option Key) (q : Key) → value_leads index key u ≡ true → is_key q u ≡ true → lead_of index q ≡ Some key
+one_leads : (index : UniqueIndex) (key : List Value) (u : Option Key) (q : Key) → value_leads index key u ≡ true → is_value_of q u ≡ true → lead_of index q ≡ Some key
 one_leads index key None q leads is = absurd (cc)
 one_leads index key (Some k) q leads is = ap (lead_of index) (sym (key_is k q is)) ∙ leads_is key (lead_of index k) leads
 
-one_led : (index : UniqueIndex) (key : List Value) (u : Option Key) → ((q : Key) → is_key q u ≡ true → lead_of index q ≡ Some key) → value_leads index key u ≡ true
+one_led : (index : UniqueIndex) (key : List Value) (u : Option Key) → ((q : Key) → is_value_of q u ≡ true → lead_of index q ≡ Some key) → value_leads index key u ≡ true
 one_led index key None led = refl
 one_led index key (Some k) led = is_led key (lead_of index k) (led k (key_self k))
 
@@ -56,7 +56,7 @@ all_lead : (index : UniqueIndex) (id number : ℕ) (us : List (List ℕ)) (key r
 all_lead index id number [] key row q lead has = absurd (cc)
 all_lead index id number (columns ∷ more) key row q lead has =
     let u = unique_at id number columns row in
-    one_of (is_key q u) (has_from id (number + 1) more row q) has (lead_of index q ≡ Some key)
+    one_of (is_value_of q u) (has_from id (number + 1) more row q) has (lead_of index q ≡ Some key)
     (λ is. one_leads index key u q (left_true (value_leads index key u) _ lead) is)
     (λ later. all_lead index id (number + 1) more key row q (right_true (value_leads index key u) _ lead) later)
 
@@ -65,8 +65,8 @@ all_led index id number [] key row led = refl
 all_led index id number (columns ∷ more) key row led =
     let u = unique_at id number columns row in
     both_true (value_leads index key u) (leads_from index id (number + 1) more key row)
-    (one_led index key u (λ q is. led q (first_of (is_key q u) (has_from id (number + 1) more row q) is)))
-    (all_led index id (number + 1) more key row (λ q later. led q (second_of (is_key q u) (has_from id (number + 1) more row q) later)))
+    (one_led index key u (λ q is. led q (first_of (is_value_of q u) (has_from id (number + 1) more row q) is)))
+    (all_led index id (number + 1) more key row (λ q later. led q (second_of (is_value_of q u) (has_from id (number + 1) more row q) later)))
 
 -- ---- the rows of a table
 

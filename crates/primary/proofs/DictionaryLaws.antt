@@ -7,7 +7,7 @@ use Rattle.redo_vec.specs.declared.vector.Vector.TheVariants.{Start, Change as O
 use Rattle.redo_spec.specs.declared.header.Header.{Header}
 use Rattle.redo_spec.specs.Dictionary.{Dictionary, dictionary_after}
 use Rattle.redo_spec.specs.History.{Entry}
-use Rattle.redo_spec.specs.Standing.{Standing, standing_after, standing_after_all, entered, record_after}
+use Rattle.redo_spec.specs.Standing.{Standing, standing_after, standing_after_all, standing_at_record, record_after}
 use Rattle.redo_spec.specs.Law.{dictionary_fault, vector_fault, vectors_fault, whole_fault, record_fault, left_by_vectors, dictionary_left}
 use Rattle.primary.proofs.FitLaws.{none_first, none_second, no_fault, is_unfinished, both}
 
@@ -28,7 +28,7 @@ dictionary_kept h vec (v ∷ vs) s fits whole =
     dictionary_kept h (vec + 1) vs (standing_after vec v s) (none_second (vector_fault h s v) _ fits) (ap (λ d. d.finished) same ∙ whole) ∙ same
 
 pub record_keeps : (e : Entry) (s : Standing) → record_fault s e ≡ None → s.dictionary.finished ≡ true → (record_after e s).dictionary ≡ s.dictionary
-record_keeps (h, r) s fits whole = dictionary_kept h 1 r.vectors (entered (h, r) s) (none_second (whole_fault s (h, r)) _ fits) whole
+record_keeps (h, r) s fits whole = dictionary_kept h 1 r.vectors (standing_at_record (h, r) s) (none_second (whole_fault s (h, r)) _ fits) whole
 
 left_after : (o : Option LawFault) (d later : Dictionary) → (o ≡ None → later ≡ d) → option_map_or (λ fault. d) o later ≡ d
 left_after None d later more = more refl
@@ -45,4 +45,4 @@ left_same_vectors h vec (v ∷ vs) s whole =
 -- a refused record leaves a whole dictionary as it is
 pub left_same : (e : Entry) (s : Standing) → s.dictionary.finished ≡ true → dictionary_left s e ≡ s.dictionary
 left_same (h, r) s whole =
-    left_after (whole_fault s (h, r)) s.dictionary (left_by_vectors h 1 r.vectors (entered (h, r) s)) (λ fits. left_same_vectors h 1 r.vectors (entered (h, r) s) whole)
+    left_after (whole_fault s (h, r)) s.dictionary (left_by_vectors h 1 r.vectors (standing_at_record (h, r) s)) (λ fits. left_same_vectors h 1 r.vectors (standing_at_record (h, r) s) whole)

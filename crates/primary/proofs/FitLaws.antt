@@ -17,10 +17,10 @@ use Rattle.redo_spec.specs.declared.header.Header.{Header}
 use Rattle.redo_spec.specs.ChangeForm.{change_fault}
 use Rattle.redo_spec.specs.Survivors.{after_change, after_undo}
 use Rattle.redo_spec.specs.History.{Placed, same_xid}
-use Rattle.redo_spec.specs.Standing.{Standing, OpenTxn, is_open, with_open, closed as closed_txns, standing_after}
+use Rattle.redo_spec.specs.Standing.{Standing, OpenTxn, is_open, with_open, without_open as closed_txns, standing_after}
 use Rattle.redo_spec.specs.Law.{dictionary_fault, own_fault, vector_fault, is_passed_over, open_fault, made_fault, unless}
-use Rattle.primary.specs.Progress.{OpenChanges, changes_of, rechanged, live_after}
-use Rattle.primary.specs.Running.{AreAccepted, Opens, Fits}
+use Rattle.primary.specs.Progress.{OpenChanges, changes_of, with_changes, live_after}
+use Rattle.primary.specs.Running.{AreAccepted, Opens, FitsStanding}
 use Rattle.primary.proofs.LiveLaws.{same_are, opened_changes, closed_changes, rechanged_changes, opened_rises, closed_rises, rechanged_rises}
 
 -- ---- tests
@@ -101,7 +101,7 @@ mapped_some : (f : List Placed → List Placed) (o : Option (List Placed)) → i
 mapped_some f None = refl
 mapped_some f (Some ps) = refl
 
-pub rechanged_some : (x y : Xid) (f : List Placed → List Placed) (live : OpenChanges) → is_some (changes_of y (rechanged x f live (changes_of x live))) ≡ is_some (changes_of y live)
+pub rechanged_some : (x y : Xid) (f : List Placed → List Placed) (live : OpenChanges) → is_some (changes_of y (with_changes x f live (changes_of x live))) ≡ is_some (changes_of y live)
 rechanged_some x y f live =
     ap is_some (rechanged_changes x y f live)
     ∙ elim (same_xid x y) as (λ b. same_xid x y ≡ b → is_some (cond b (option_map f (changes_of x live)) (changes_of y live)) ≡ is_some (changes_of y live)) [
@@ -174,7 +174,7 @@ change_is_accepted s c fits is =
 nowhere : (y : Xid) (live : OpenChanges) (ps : List Placed) → live ≡ [] → changes_of y live ≡ Some ps → (P : Type 0) → P
 nowhere y live ps none e P = let gone : None ≡ Some ps = sym (ap (changes_of y) none) ∙ e in absurd (cc)
 
-pub fits_after : (h : Header) (vec : ℕ) (at : Pos) (v : Vector) (s : Standing) (live : OpenChanges) → Fits s live → vector_fault h s v ≡ None → Fits (standing_after vec v s) (live_after at v live)
+pub fits_after : (h : Header) (vec : ℕ) (at : Pos) (v : Vector) (s : Standing) (live : OpenChanges) → FitsStanding s live → vector_fault h s v ≡ None → FitsStanding (standing_after vec v s) (live_after at v live)
 fits_after h vec at (Start x) s live f fits =
     let whole = is_whole s.dictionary.finished _ (no_fault _ _ (none_first (dictionary_fault h s (Start x)) _ fits)) in
     record {

@@ -12,7 +12,7 @@ use Rattle.redo_vec.specs.declared.vector.Vector.{Vector}
 use Rattle.redo_vec.specs.declared.vector.Vector.TheVariants.{Start, Change as OfChange, Undo, Commit, Rollback, Table, DictEnd}
 use Rattle.redo_spec.specs.declared.header.Header.{Header}
 use Rattle.redo_spec.specs.Survivors.{after_change, after_undo}
-use Rattle.redo_spec.specs.History.{Placed, Txn, History, same_xid, of_xid, but_xid, with_xid, changed, undone, known_by_commit, ended_by, started, after_vector}
+use Rattle.redo_spec.specs.History.{Placed, Txn, History, same_xid, of_xid, but_xid, with_xid, txn_after_change, txn_after_undo, txn_known_by_commit, txns_ended_by, with_started, after_vector}
 use Rattle.redo_spec.specs.Standing.{Standing, is_open}
 use Rattle.redo_spec.specs.Law.{dictionary_fault, vector_fault}
 use Rattle.primary.specs.Progress.{OpenChanges, changes_of, live_after}
@@ -119,7 +119,7 @@ ended_lives x ts live after l are = record {
 }
 
 started_lives : (at : Pos) (x : Xid) (s : Standing) (ts : List Txn) (live after : OpenChanges) → is_open s x ≡ false → Opens s live → Lives ts live →
-    ((y : Xid) → changes_of y after ≡ cond (same_xid y x) (Some []) (changes_of y live)) → Lives (started at x ts) after
+    ((y : Xid) → changes_of y after ≡ cond (same_xid y x) (Some []) (changes_of y live)) → Lives (with_started at x ts) after
 started_lives at x s ts live after closed o l are =
     let new : Txn = record { start = at; xid = x; survivors = [] } in
     record {
@@ -142,9 +142,9 @@ pub lives_after : (h : Header) (scn : ℕ) (at : Pos) (v : Vector) (s : Standing
 lives_after h scn at (Start x) s hist live o fits l =
     started_lives at x s hist.active live _ (no_fault (is_open s x) faults.OpenTwice (none_second (dictionary_fault h s (Start x)) _ fits)) o l (λ y. opened_changes x y live)
 lives_after h scn at (OfChange c) s hist live o fits l =
-    changed_lives (changed (at, c)) (λ ps. after_change ps (at, c)) c.xid hist.active live (λ t. refl) (λ t. refl) l _ (λ y. rechanged_changes c.xid y (λ ps. after_change ps (at, c)) live)
+    changed_lives (txn_after_change (at, c)) (λ ps. after_change ps (at, c)) c.xid hist.active live (λ t. refl) (λ t. refl) l _ (λ y. rechanged_changes c.xid y (λ ps. after_change ps (at, c)) live)
 lives_after h scn at (Undo x) s hist live o fits l =
-    changed_lives undone after_undo x hist.active live (λ t. refl) (λ t. refl) l _ (λ y. rechanged_changes x y after_undo live)
+    changed_lives txn_after_undo after_undo x hist.active live (λ t. refl) (λ t. refl) l _ (λ y. rechanged_changes x y after_undo live)
 lives_after h scn at (Commit x) s hist live o fits l = ended_lives x hist.active live _ l (λ y. closed_changes x y live o.rising)
 lives_after h scn at (Rollback x) s hist live o fits l = ended_lives x hist.active live _ l (λ y. closed_changes x y live o.rising)
 lives_after h scn at (Table t) s hist live o fits l = record { of = l.of }
@@ -183,14 +183,14 @@ one_listed [] ps e = absurd (cc)
 one_listed (t ∷ []) ps e = record { txn = t; is = refl; survivors = cc }
 one_listed (t ∷ u ∷ ts) ps e = absurd (cc)
 
-pub commit_ends : (at : Pos) (x : Xid) (ts : List Txn) (live : OpenChanges) → Lives ts live → Ends (ended_by at x ts) (unwrap_or (changes_of x live) [])
+pub commit_ends : (at : Pos) (x : Xid) (ts : List Txn) (live : OpenChanges) → Lives ts live → Ends (txns_ended_by at x ts) (unwrap_or (changes_of x live) [])
 commit_ends at x ts live l = by (changes_of x live) (l.of x)
   where
-    by : (o : Option (List Placed)) → survivors_of (of_xid x ts) ≡ option_to_list o → Ends (ended_by at x ts) (unwrap_or o [])
+    by : (o : Option (List Placed)) → survivors_of (of_xid x ts) ≡ option_to_list o → Ends (txns_ended_by at x ts) (unwrap_or o [])
     by None e =
         let none = any_from_filter (λ t. same_xid t.xid x) ts (none_listed (of_xid x ts) e) in
-        record { txn = known_by_commit at x; is = ap (λ b. cond b (of_xid x ts) (known_by_commit at x ∷ [])) none; survivors = refl }
+        record { txn = txn_known_by_commit at x; is = ap (λ b. cond b (of_xid x ts) (txn_known_by_commit at x ∷ [])) none; survivors = refl }
     by (Some ps) e =
         let one = one_listed (of_xid x ts) ps e in
         let some = any_from_found (λ t. same_xid t.xid x) ts [] one.txn one.is in
-        record { txn = one.txn; is = ap (λ b. cond b (of_xid x ts) (known_by_commit at x ∷ [])) some ∙ one.is; survivors = one.survivors }
+        record { txn = one.txn; is = ap (λ b. cond b (of_xid x ts) (txn_known_by_commit at x ∷ [])) some ∙ one.is; survivors = one.survivors }

@@ -27,7 +27,7 @@ use Rattle.redo_spec.specs.History.{Entry, Placed, History, no_history, history_
 use Rattle.redo_spec.specs.Law.{vector_fault, vectors_fault, whole_fault, record_fault, dictionary_left, admitted_or, admission}
 use Rattle.redo_law.specs.Calls.{standing_of}
 use Rattle.redo_spec.specs.Skips.{Skip}
-use Rattle.redo_spec.specs.Standing.{Standing, standing_after, standing_after_all, entered as entered_standing, record_after}
+use Rattle.redo_spec.specs.Standing.{Standing, standing_after, standing_after_all, standing_at_record as entered_standing, record_after}
 use Rattle.redo_spec.specs.Survivors.{after_change, after_undo}
 use Rattle.redo_spec.specs.Tables.{Table, Tables, RowsById, assembled, definitions_of}
 use Rattle.row_apply.specs.Soundness.{AreSound, AreSoundRows}
@@ -36,9 +36,9 @@ use Rattle.row_apply.proofs.Adding.{was_added, sound-added, sound-minus}
 use Rattle.row_apply.proofs.Fitting.{updated_fits}
 use Rattle.primary.specs.declared.plain.Plain.{Plain}
 use Rattle.primary.specs.Cells.{HaveCells, HasCells, AreOfCells}
-use Rattle.primary.specs.Progress.{OpenChanges, changes_of, Ahead, Progress, Going, Ended, kept_of, tables_or, ended_or, applied, committed, live_after, after_vector, after_vectors, tables_shown, waiting_until, tables_then, entered, RowsAreSound, NoneWait, judged, after_record, after_records, end_of}
-use Rattle.primary.specs.Running.{AreAccepted, Fits}
-use Rattle.primary.specs.Starts.{IsStart, first_ahead, after, begun, fold_from}
+use Rattle.primary.specs.Progress.{OpenChanges, changes_of, FoldState, Progress, Going, Ended, kept_of, tables_or, progress_or_end, progress_after_effects, progress_after_commit, live_after, progress_after_vector, progress_after_vectors, tables_shown, waiting_until, tables_then, state_at_record, RowsAreSound, NoneWait, progress_unless_bad, progress_after_record, progress_after_records, end_of}
+use Rattle.primary.specs.Running.{AreAccepted, FitsStanding}
+use Rattle.primary.specs.Starts.{IsStart, first_state, progress_after, first_progress, fold_from}
 use Rattle.primary.proofs.DictionaryLaws.{dictionary_kept, record_keeps}
 use Rattle.primary.proofs.FitLaws.{none_first, none_second, changed_at, mapped_is, fits_after}
 use Rattle.primary.proofs.FoldsLaw.{IfGoing, Waits, waits_vectors, waits_record, progress_folds}
@@ -153,9 +153,9 @@ abbrev pub OpenHaveCells : OpenChanges → Type 0
 OpenHaveCells live = (y : Xid) (ps : List Placed) → changes_of y live ≡ Some ps → HaveCells ps
 
 -- a fold that goes on, within a record behind which this standing is the last
-pub record GoesSound (last s : Standing) (a : Ahead) : Type 0 where
+pub record GoesSound (last s : Standing) (a : FoldState) : Type 0 where
   pub standing : a.standing ≡ last
-  pub fits : Fits s a.live
+  pub fits : FitsStanding s a.live
   pub cells : OpenHaveCells a.live
   pub sound : AreSound a.tables
   pub named : last.dictionary.finished ≡ true → definitions_of a.tables ≡ last.dictionary.tables
@@ -164,18 +164,18 @@ abbrev pub IsSound : Standing → Standing → Progress → Type 0
 IsSound last s (Going a) = GoesSound last s a
 IsSound last s (Ended f) = AreSound f.tables
 
-applied_sound : (last s : Standing) (scn : ℕ) (a : Ahead) (r : Result Tables Missed) → GoesSound last s a → ((us : Tables) → r ≡ Ok us → StaySound a.tables us) → (o : Option Verdict) → IsSound last s (ended_or o scn (tables_or a.tables r) a)
+applied_sound : (last s : Standing) (scn : ℕ) (a : FoldState) (r : Result Tables Missed) → GoesSound last s a → ((us : Tables) → r ≡ Ok us → StaySound a.tables us) → (o : Option Verdict) → IsSound last s (progress_or_end o scn (tables_or a.tables r) a)
 applied_sound last s scn a r g stay (Some v) = g.sound
 applied_sound last s scn a (Ok us) g stay None =
     let one = stay us refl in
     record { standing = g.standing; fits = g.fits; cells = g.cells; sound = one.sound; named = λ whole. one.rows ∙ g.named whole }
 applied_sound last s scn a (Err m) g stay None = record { standing = g.standing; fits = g.fits; cells = g.cells; sound = g.sound; named = g.named }
 
-committed_sound : (skips : List Skip) (last s : Standing) (scn : ℕ) (ps : List Placed) (a : Ahead) → GoesSound last s a → AreAccepted (definitions_of a.tables) ps → HaveCells ps → IsSound last s (committed skips scn ps a)
+committed_sound : (skips : List Skip) (last s : Standing) (scn : ℕ) (ps : List Placed) (a : FoldState) → GoesSound last s a → AreAccepted (definitions_of a.tables) ps → HaveCells ps → IsSound last s (progress_after_commit skips scn ps a)
 committed_sound skips last s scn ps a g fits cells =
     let kept = kept_of skips (definitions_of a.tables) a.n ps in
     let r = effects a.tables kept in
-    elim (nat_lt a.made a.n) as (λ b. IsSound last s (cond b (Going (record a { made = a.made + 1 })) (applied scn r a))) [
+    elim (nat_lt a.made a.n) as (λ b. IsSound last s (cond b (Going (record a { made = a.made + 1 })) (progress_after_effects scn r a))) [
       | true ↦ record { standing = g.standing; fits = g.fits; cells = g.cells; sound = g.sound; named = g.named }
       | false ↦ applied_sound last s scn a r g (λ us is. effects_sound a.tables kept us g.sound (filtered _ _ ps fits) (filtered _ _ ps cells) is) (halted scn r)
     ]
@@ -192,7 +192,7 @@ cells_front zero (p ∷ ps) all = tt
 cells_front (suc n) [] all = tt
 cells_front (suc n) (p ∷ ps) all = (all.0, cells_front n ps all.1)
 
-cells_after : (at : Pos) (v : Vector) (s : Standing) (live : OpenChanges) → Fits s live → HasCells v → OpenHaveCells live → OpenHaveCells (live_after at v live)
+cells_after : (at : Pos) (v : Vector) (s : Standing) (live : OpenChanges) → FitsStanding s live → HasCells v → OpenHaveCells live → OpenHaveCells (live_after at v live)
 cells_after at (Start x) s live f one all = λ y ps e. changed_at HaveCells _ (Some []) (changes_of y live) ps (sym (opened_changes x y live) ∙ e)
     (λ qs is. let empty : [] ≡ qs = cc in subst HaveCells empty tt) (λ qs is. all y qs is)
 cells_after at (OfChange c) s live f one all = λ y ps e. changed_at HaveCells _ (option_map (λ qs. after_change qs (at, c)) (changes_of c.xid live)) (changes_of y live) ps
@@ -206,7 +206,7 @@ cells_after at (OfTable t) s live f one all = all
 cells_after at DictEnd s live f one all = all
 
 vector_sound : (skips : List Skip) (last : Standing) (h : Header) (scn : ℕ) (at : Pos) (vec : ℕ) (v : Vector) (rest : List Vector) (s : Standing) (p : Progress) →
-    vectors_fault h vec (v ∷ rest) s ≡ None → standing_after_all vec (v ∷ rest) s ≡ last → HasCells v → IsSound last s p → IsSound last (standing_after vec v s) (after_vector skips scn at v p)
+    vectors_fault h vec (v ∷ rest) s ≡ None → standing_after_all vec (v ∷ rest) s ≡ last → HasCells v → IsSound last s p → IsSound last (standing_after vec v s) (progress_after_vector skips scn at v p)
 vector_sound skips last h scn at vec v rest s (Ended f) fits ends one g = g
 vector_sound skips last h scn at vec v rest s (Going a) fits ends one g = by v own (none_first (vector_fault h s v) _ fits) kept
   where
@@ -223,7 +223,7 @@ vector_sound skips last h scn at vec v rest s (Going a) fits ends one g = by v o
     kept whole = ap (λ (t : Standing). t.dictionary) (sym ends) ∙ dictionary_kept h vec (v ∷ rest) s fits whole
 
     by : (v : Vector) → GoesSound last (standing_after vec v s) (record a { live = live_after at v a.live }) → vector_fault h s v ≡ None → (s.dictionary.finished ≡ true → last.dictionary ≡ s.dictionary) →
-        IsSound last (standing_after vec v s) (after_vector skips scn at v (Going a))
+        IsSound last (standing_after vec v s) (progress_after_vector skips scn at v (Going a))
     by (Start x) o f k = o
     by (OfChange c) o f k = o
     by (Undo x) o f k = o
@@ -243,11 +243,11 @@ vector_sound skips last h scn at vec v rest s (Going a) fits ends one g = by v o
         celled (Some qs) e = g.cells x qs e
 
 vectors_sound : (skips : List Skip) (last : Standing) (h : Header) (scn rec vec : ℕ) (vs : List Vector) (s : Standing) (p : Progress) →
-    vectors_fault h vec vs s ≡ None → standing_after_all vec vs s ≡ last → AllByRecursion HasCells vs → IsSound last s p → IsSound last last (after_vectors skips scn rec vec vs p)
+    vectors_fault h vec vs s ≡ None → standing_after_all vec vs s ≡ last → AllByRecursion HasCells vs → IsSound last s p → IsSound last last (progress_after_vectors skips scn rec vec vs p)
 vectors_sound skips last h scn rec vec [] s p fits ends all g = subst (λ (t : Standing). IsSound last t p) ends g
 vectors_sound skips last h scn rec vec (v ∷ vs) s p fits ends all g =
     let at : Pos = record { rec = rec; vec = vec } in
-    vectors_sound skips last h scn rec (vec + 1) vs (standing_after vec v s) (after_vector skips scn at v p) (none_second (vector_fault h s v) _ fits) ends all.1
+    vectors_sound skips last h scn rec (vec + 1) vs (standing_after vec v s) (progress_after_vector skips scn at v p) (none_second (vector_fault h s v) _ fits) ends all.1
     (vector_sound skips last h scn at vec v vs s p fits ends all.0 g)
 
 -- ---- a record
@@ -268,32 +268,32 @@ names_then false rows tables s t named same whole =
     let none : Tables = [] in
     ap (λ b. definitions_of (cond b (assembled t.dictionary.tables rows) none)) whole ∙ definitions_assembled t.dictionary.tables rows
 
-record_sound : (skips : List Skip) (e : Entry) (p : Progress) → AllByRecursion HasCells e.1.vectors → RowsAreSound e p → IsSoundProgress p → IsSoundProgress (after_record skips e p)
+record_sound : (skips : List Skip) (e : Entry) (p : Progress) → AllByRecursion HasCells e.1.vectors → RowsAreSound e p → IsSoundProgress p → IsSoundProgress (progress_after_record skips e p)
 record_sound skips (h, r) (Ended f) cells rows g = g
 record_sound skips (h, r) (Going a) cells rows g = by (record_fault a.standing (h, r)) refl
   where
-    by : (o : Option LawFault) → record_fault a.standing (h, r) ≡ o → IsSoundProgress (judged o skips (h, r) a)
+    by : (o : Option LawFault) → record_fault a.standing (h, r) ≡ o → IsSoundProgress (progress_unless_bad o skips (h, r) a)
     by (Some fault) is = g.sound
     by None is =
         let s = a.standing in
         let last = record_after (h, r) s in
         let keeps : s.dictionary.finished ≡ true → last.dictionary ≡ s.dictionary = λ whole. record_keeps (h, r) s is whole in
-        let begins : GoesSound last (entered_standing (h, r) s) (entered (h, r) a) = record {
+        let begins : GoesSound last (entered_standing (h, r) s) (state_at_record (h, r) a) = record {
           standing = refl;
           fits = record { opens = record { rising = g.fits.opens.rising; alike = g.fits.opens.alike }; accepted = g.fits.accepted; none = g.fits.none };
           cells = g.cells;
           sound = sound_then s.dictionary.finished a.waiting a.tables last (λ whole. g.sound) (rows is);
           named = names_then s.dictionary.finished a.waiting a.tables s last g.named keeps;
         } in
-        as_progress last (after_vectors skips r.scn (s.rec + 1) 1 r.vectors (Going (entered (h, r) a)))
-        (vectors_sound skips last h r.scn (s.rec + 1) 1 r.vectors (entered_standing (h, r) s) (Going (entered (h, r) a)) (none_second (whole_fault s (h, r)) _ is) refl cells begins)
+        as_progress last (progress_after_vectors skips r.scn (s.rec + 1) 1 r.vectors (Going (state_at_record (h, r) a)))
+        (vectors_sound skips last h r.scn (s.rec + 1) 1 r.vectors (entered_standing (h, r) s) (Going (state_at_record (h, r) a)) (none_second (whole_fault s (h, r)) _ is) refl cells begins)
 
 -- ---- the rows that wait
 
 -- they are sound as each of these records comes
 abbrev pub SoundAhead : List Skip → List Entry → Progress → Type 0
 SoundAhead skips [] p = Unit {0}
-SoundAhead skips (e ∷ es) p = RowsAreSound e p × SoundAhead skips es (after_record skips e p)
+SoundAhead skips (e ∷ es) p = RowsAreSound e p × SoundAhead skips es (progress_after_record skips e p)
 
 ended_ahead : (skips : List Skip) (es : List Entry) (f : Folded) → SoundAhead skips es (Ended f)
 ended_ahead skips [] f = tt
@@ -324,7 +324,7 @@ first_sound start es s hist sound =
       | false ↦ λ part. tt
     ] refl
 
-sound_ahead : (start : Plain) (skips : List Skip) (es : List Entry) (a : Ahead) (hist : History) → Waits start a.standing a.waiting → BaseIsSound start (admission a.standing hist es).standing → SoundAhead skips es (Going a)
+sound_ahead : (start : Plain) (skips : List Skip) (es : List Entry) (a : FoldState) (hist : History) → Waits start a.standing a.waiting → BaseIsSound start (admission a.standing hist es).standing → SoundAhead skips es (Going a)
 sound_ahead start skips [] a hist waits sound = tt
 sound_ahead start skips (e ∷ es) a hist waits sound =
     elim (record_fault a.standing e) as (λ o. record_fault a.standing e ≡ o →
@@ -333,23 +333,23 @@ sound_ahead start skips (e ∷ es) a hist waits sound =
         λ none part.
             let next = record_after e a.standing in
             subst (λ (rows : RowsById). AreSound (tables_shown next.dictionary.finished next.dictionary.tables rows)) (sym (waits part)) (first_sound start es next (history_after (a.standing.rec + 1) e hist) later),
-        goes_on (λ b waits_b sound_b. sound_ahead start skips es b (history_after (a.standing.rec + 1) e hist) waits_b sound_b) (after_record skips e (Going a)) (waits_record start skips e a fits waits) later,
+        goes_on (λ b waits_b sound_b. sound_ahead start skips es b (history_after (a.standing.rec + 1) e hist) waits_b sound_b) (progress_after_record skips e (Going a)) (waits_record start skips e a fits waits) later,
       )
       | Some fault ↦ λ is later. (
         λ none part. let both : Some fault ≡ None = sym is ∙ none in absurd (cc),
-        subst (λ (o : Option LawFault). SoundAhead skips es (judged o skips e a)) (sym is) (ended_ahead skips es _),
+        subst (λ (o : Option LawFault). SoundAhead skips es (progress_unless_bad o skips e a)) (sym is) (ended_ahead skips es _),
       )
     ] refl sound
   where
-    goes_on : ((b : Ahead) → Waits start b.standing b.waiting → BaseIsSound start (admission b.standing (history_after (a.standing.rec + 1) e hist) es).standing → SoundAhead skips es (Going b)) →
+    goes_on : ((b : FoldState) → Waits start b.standing b.waiting → BaseIsSound start (admission b.standing (history_after (a.standing.rec + 1) e hist) es).standing → SoundAhead skips es (Going b)) →
         (p : Progress) → IfGoing p (λ b. (b.standing ≡ record_after e a.standing) × Waits start b.standing b.waiting) →
         BaseIsSound start (admission (record_after e a.standing) (history_after (a.standing.rec + 1) e hist) es).standing → SoundAhead skips es p
     goes_on again (Ended f) is later = ended_ahead skips es f
     goes_on again (Going b) is later = again b is.1 (subst (λ (s : Standing). BaseIsSound start (admission s (history_after (a.standing.rec + 1) e hist) es).standing) (sym is.0) later)
 
 -- from a start on
-pub start_ahead : (start : Plain) (skips : List Skip) (es : List Entry) → IsStart start es → SoundAhead skips es (begun start)
-start_ahead start skips es is = sound_ahead start skips es (first_ahead start) (no_history start.before) (λ part. ap (λ b. waiting_until b start.tables) part) is.sound
+pub start_ahead : (start : Plain) (skips : List Skip) (es : List Entry) → IsStart start es → SoundAhead skips es (first_progress start)
+start_ahead start skips es is = sound_ahead start skips es (first_state start) (no_history start.before) (λ part. ap (λ b. waiting_until b start.tables) part) is.sound
 
 -- before the first record
 pub starts_empty : (start : Plain) (es : List Entry) → IsStart start es → IsStart start []
@@ -361,12 +361,12 @@ ahead_item skips [] i or e p inside is ahead = absurd (omega (arith, inside))
 ahead_item skips (x ∷ xs) zero or e p inside is ahead = subst (λ (d : Entry). RowsAreSound d p) (sym is) ahead.0
 ahead_item skips (x ∷ xs) (suc i) or e p inside is ahead = ahead_item skips xs i or e p (omega (arith, inside)) is ahead
 
-at_each : (skips : List Skip) (front : List Entry) (e : Entry) (back : List Entry) (p : Progress) → SoundAhead skips (front ++ e ∷ back) p → RowsAreSound e (after_records skips front p)
+at_each : (skips : List Skip) (front : List Entry) (e : Entry) (back : List Entry) (p : Progress) → SoundAhead skips (front ++ e ∷ back) p → RowsAreSound e (progress_after_records skips front p)
 at_each skips [] e back p ahead = ahead.0
-at_each skips (f ∷ front) e back p ahead = at_each skips front e back (after_record skips f p) ahead.1
+at_each skips (f ∷ front) e back p ahead = at_each skips front e back (progress_after_record skips f p) ahead.1
 
-pub sound_at_each : (start : Plain) (skips : List Skip) (front : List Entry) (e : Entry) (back : List Entry) → IsStart start (front ++ e ∷ back) → RowsAreSound e (after start skips front)
-sound_at_each start skips front e back is = at_each skips front e back (begun start) (start_ahead start skips (front ++ e ∷ back) is)
+pub sound_at_each : (start : Plain) (skips : List Skip) (front : List Entry) (e : Entry) (back : List Entry) → IsStart start (front ++ e ∷ back) → RowsAreSound e (progress_after start skips front)
+sound_at_each start skips front e back is = at_each skips front e back (first_progress start) (start_ahead start skips (front ++ e ∷ back) is)
 
 -- no rows are sound
 pub none_sound : (e : Entry) (p : Progress) → NoneWait p → RowsAreSound e p
@@ -380,7 +380,7 @@ still_none true rows none = refl
 still_none false rows none = none
 
 -- and none wait later
-pub none_later : (skips : List Skip) (e : Entry) (p : Progress) → NoneWait p → NoneWait (after_record skips e p)
+pub none_later : (skips : List Skip) (e : Entry) (p : Progress) → NoneWait p → NoneWait (progress_after_record skips e p)
 none_later skips e (Ended f) none = tt
 none_later skips (h, r) (Going a) none = by (record_fault a.standing (h, r))
   where
@@ -388,10 +388,10 @@ none_later skips (h, r) (Going a) none = by (record_fault a.standing (h, r))
     waits (Going b) is = is
     waits (Ended f) is = tt
 
-    by : (o : Option LawFault) → NoneWait (judged o skips (h, r) a)
+    by : (o : Option LawFault) → NoneWait (progress_unless_bad o skips (h, r) a)
     by (Some fault) = tt
-    by None = waits (after_vectors skips r.scn (a.standing.rec + 1) 1 r.vectors (Going (entered (h, r) a)))
-        (waits_vectors skips r.scn (a.standing.rec + 1) 1 r.vectors (Going (entered (h, r) a)) (λ s rows. rows ≡ []) (still_none (record_after (h, r) a.standing).dictionary.finished a.waiting none))
+    by None = waits (progress_after_vectors skips r.scn (a.standing.rec + 1) 1 r.vectors (Going (state_at_record (h, r) a)))
+        (waits_vectors skips r.scn (a.standing.rec + 1) 1 r.vectors (Going (state_at_record (h, r) a)) (λ s rows. rows ≡ []) (still_none (record_after (h, r) a.standing).dictionary.finished a.waiting none))
 
 -- over the tables of a whole dictionary any records may come
 pub whole_start : (start : Plain) (es : List Entry) → start.law.dict.finished ≡ true → IsStart start [] → IsStart start es
@@ -409,9 +409,9 @@ empty_start start es none counted =
       counted = counted;
     }
 
-records_sound : (skips : List Skip) (es : List Entry) (p : Progress) → AreOfCells es → SoundAhead skips es p → IsSoundProgress p → IsSoundProgress (after_records skips es p)
+records_sound : (skips : List Skip) (es : List Entry) (p : Progress) → AreOfCells es → SoundAhead skips es p → IsSoundProgress p → IsSoundProgress (progress_after_records skips es p)
 records_sound skips [] p cells rows g = g
-records_sound skips (e ∷ es) p cells rows g = records_sound skips es (after_record skips e p) cells.1 rows.1 (record_sound skips e p cells.0 rows.0 g)
+records_sound skips (e ∷ es) p cells rows g = records_sound skips es (progress_after_record skips e p) cells.1 rows.1 (record_sound skips e p cells.0 rows.0 g)
 
 end_sound : (stop : Stop) (p : Progress) → IsSoundProgress p → AreSound (end_of stop p).tables
 end_sound stop (Going a) g = g.sound
@@ -419,7 +419,7 @@ end_sound stop (Ended f) g = g
 
 -- ---- a fold
 
-begun_sound : (start : Plain) (es : List Entry) → IsStart start es → IsSoundProgress (begun start)
+begun_sound : (start : Plain) (es : List Entry) → IsStart start es → IsSoundProgress (first_progress start)
 begun_sound start es is = record {
   standing = refl;
   fits = record { opens = record { rising = nothing_rises; alike = λ y. refl }; accepted = λ y ps e. absurd (cc); none = λ part. refl };
@@ -434,4 +434,4 @@ begun_sound start es is = record {
 pub fold_sound : (start : Plain) (skips : List Skip) (es : List Entry) (stop : Stop) → IsStart start es → AreOfCells es → AreSound (fold_from start skips es stop).tables
 fold_sound start skips es stop is cells =
     subst (λ (f : Folded). AreSound f.tables) (progress_folds start skips es stop is.counted)
-    (end_sound stop (after start skips es) (records_sound skips es (begun start) cells (start_ahead start skips es is) (begun_sound start es is)))
+    (end_sound stop (progress_after start skips es) (records_sound skips es (first_progress start) cells (start_ahead start skips es is) (begun_sound start es is)))

@@ -19,7 +19,7 @@ use Rattle.row_apply.specs.declared.writes.Write.{Write}
 use Rattle.redo_spec.specs.Work.{rows_of, row_at, write_row}
 use Rattle.row_apply.specs.Found.{key_columns, owner_of}
 use Rattle.row_apply.specs.Overlaid.{rows_after, overlaid}
-use Rattle.primary.specs.ById.{table_in, with_row, put_beside, without_row, take_from, written_beside, written_all}
+use Rattle.primary.specs.ById.{table_in, with_row, put_beside, without_row, take_from, rows_after_write, rows_after_writes}
 use Rattle.primary.proofs.MapLemmas.{rows_by_is, find_is_lookup, put_is_insert}
 
 -- the tables are those of the dictionary
@@ -133,27 +133,27 @@ rows_without by id key q = go (table_in by id) refl
         ∙ ap (λ rs. cond (id == q) (entries.where_key row_cmp (λ k. not (eq_by_cmp row_cmp key k)) rs) (rows_by by q)) (sym (rows_by_is by id ∙ ap (λ o. unwrap_or o []) e))
 
 -- the rows of each table after a write
-pub rows_written : (by : RowsById) (w : Write) (q : ℕ) → rows_by (written_beside by w w.row) q ≡ cond (w.table == q) (write_row (rows_by by q) w.key w.row) (rows_by by q)
+pub rows_written : (by : RowsById) (w : Write) (q : ℕ) → rows_by (rows_after_write by w w.row) q ≡ cond (w.table == q) (write_row (rows_by by q) w.key w.row) (rows_by by q)
 rows_written by w q = go w.row
   where
     here : (b : Bool) → b ≡ (w.table == q) → (f : Rows → Rows) → cond b (f (rows_by by w.table)) (rows_by by q) ≡ cond b (f (rows_by by q)) (rows_by by q)
     here true is f = ap (λ id. f (rows_by by id)) (equal_numbers w.table q (sym is))
     here false is f = refl
 
-    go : (o : Option (List Value)) → rows_by (written_beside by w o) q ≡ cond (w.table == q) (write_row (rows_by by q) w.key o) (rows_by by q)
+    go : (o : Option (List Value)) → rows_by (rows_after_write by w o) q ≡ cond (w.table == q) (write_row (rows_by by q) w.key o) (rows_by by q)
     go None = rows_without by w.table w.key q ∙ here (w.table == q) refl (λ rows. entries.where_key row_cmp (λ k. not (eq_by_cmp row_cmp w.key k)) rows)
     go (Some row) = rows_with by w.table w.key row q ∙ here (w.table == q) refl (λ rows. entries.put row_cmp w.key row rows)
 
-rows_written_all : (by : RowsById) (ws : List Write) (q : ℕ) → rows_by (written_all by ws) q ≡ rows_after q ws (rows_by by q)
+rows_written_all : (by : RowsById) (ws : List Write) (q : ℕ) → rows_by (rows_after_writes by ws) q ≡ rows_after q ws (rows_by by q)
 rows_written_all by [] q = refl
-rows_written_all by (w ∷ ws) q = rows_written_all (written_beside by w w.row) ws q ∙ ap (λ rows. rows_after q ws rows) (rows_written by w q)
+rows_written_all by (w ∷ ws) q = rows_written_all (rows_after_write by w w.row) ws q ∙ ap (λ rows. rows_after q ws rows) (rows_written by w q)
 
 -- the tables of the written rows are the tables with the writes in place
-pub assembled_written : (ts : List TableRow) (by : RowsById) (ws : List Write) → assembled ts (written_all by ws) ≡ overlaid (assembled ts by) ws
+pub assembled_written : (ts : List TableRow) (by : RowsById) (ws : List Write) → assembled ts (rows_after_writes by ws) ≡ overlaid (assembled ts by) ws
 assembled_written [] by ws = refl
 assembled_written (t ∷ ts) by ws =
-    let one : Table = record { row = t; rows = rows_by (written_all by ws) t.id } in
-    ap (λ rows. record { row = t; rows = rows } ∷ assembled ts (written_all by ws)) (rows_written_all by ws t.id)
+    let one : Table = record { row = t; rows = rows_by (rows_after_writes by ws) t.id } in
+    ap (λ rows. record { row = t; rows = rows } ∷ assembled ts (rows_after_writes by ws)) (rows_written_all by ws t.id)
     ∙ ap (λ us. record { row = t; rows = rows_after t.id ws (rows_by by t.id) } ∷ us) (assembled_written ts by ws)
 
 pub overlaid_none : (tables : Tables) → overlaid tables [] ≡ tables

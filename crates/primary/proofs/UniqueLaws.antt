@@ -16,24 +16,24 @@ use Rattle.row_apply.specs.Soundness.{AreSound, AreSoundRows}
 use Rattle.row_apply.proofs.Orders.{key_is, key_self, row_is, row_self}
 use Rattle.row_apply.proofs.Owners.{owner_is, owner_none}
 use Rattle.primary.specs.Beneath.{Beneath}
-use Rattle.primary.specs.Unique.{lead_of, unique_at, is_key, has_from, has_unique, entered, left, leads, LeadsToRows, IsIndexed}
+use Rattle.primary.specs.Unique.{lead_of, unique_at, is_value_of, has_from, has_unique, lead_with, lead_without, is_lead, LeadsToRows, IsIndexed}
 use Rattle.primary.specs.declared.unique_index.UniqueIndex.{UniqueIndex}
 use Rattle.primary.proofs.TableLaws.{equal_numbers}
 
 -- ---- one unique value more, in each call that goes through the keys of a table
 
-entered_twice : (a b : Bool) (key : List Value) (o : Option (List Value)) → entered b key (entered a key o) ≡ entered (a || b) key o
+entered_twice : (a b : Bool) (key : List Value) (o : Option (List Value)) → lead_with b key (lead_with a key o) ≡ lead_with (a || b) key o
 entered_twice true true key o = refl
 entered_twice true false key o = refl
 entered_twice false b key o = refl
 
 pub entered_more : (old new : Key → Option (List Value)) (id number : ℕ) (columns : List ℕ) (more : List (List ℕ)) (key row : List Value) (u : Option Key) → u ≡ unique_at id number columns row →
-    ((q : Key) → new q ≡ entered (is_key q u) key (old q)) → (q : Key) → entered (has_from id (number + 1) more row q) key (new q) ≡ entered (has_from id number (columns ∷ more) row q) key (old q)
+    ((q : Key) → new q ≡ lead_with (is_value_of q u) key (old q)) → (q : Key) → lead_with (has_from id (number + 1) more row q) key (new q) ≡ lead_with (has_from id number (columns ∷ more) row q) key (old q)
 entered_more old new id number columns more key row u same is q =
-    ap (entered (has_from id (number + 1) more row q) key) (is q ∙ ap (λ v. entered (is_key q v) key (old q)) same)
-    ∙ entered_twice (is_key q (unique_at id number columns row)) (has_from id (number + 1) more row q) key (old q)
+    ap (lead_with (has_from id (number + 1) more row q) key) (is q ∙ ap (λ v. lead_with (is_value_of q v) key (old q)) same)
+    ∙ entered_twice (is_value_of q (unique_at id number columns row)) (has_from id (number + 1) more row q) key (old q)
 
-left_by : (a b c : Bool) (key : List Value) (o : Option (List Value)) → leads key o ≡ c → left b key (cond (a && c) None o) ≡ cond ((a || b) && c) None o
+left_by : (a b c : Bool) (key : List Value) (o : Option (List Value)) → is_lead key o ≡ c → lead_without b key (cond (a && c) None o) ≡ cond ((a || b) && c) None o
 left_by true true true key o e = refl
 left_by true false true key o e = refl
 left_by true true false key o e = ap (λ t. cond t None o) e
@@ -42,24 +42,24 @@ left_by false true c key o e = ap (λ t. cond t None o) e
 left_by false false c key o e = refl
 
 pub left_more : (old new : Key → Option (List Value)) (id number : ℕ) (columns : List ℕ) (more : List (List ℕ)) (key row : List Value) (u : Option Key) → u ≡ unique_at id number columns row →
-    ((q : Key) → new q ≡ left (is_key q u) key (old q)) → (q : Key) → left (has_from id (number + 1) more row q) key (new q) ≡ left (has_from id number (columns ∷ more) row q) key (old q)
+    ((q : Key) → new q ≡ lead_without (is_value_of q u) key (old q)) → (q : Key) → lead_without (has_from id (number + 1) more row q) key (new q) ≡ lead_without (has_from id number (columns ∷ more) row q) key (old q)
 left_more old new id number columns more key row u same is q =
-    ap (left (has_from id (number + 1) more row q) key) (is q ∙ ap (λ v. left (is_key q v) key (old q)) same)
-    ∙ left_by (is_key q (unique_at id number columns row)) (has_from id (number + 1) more row q) (leads key (old q)) key (old q) refl
+    ap (lead_without (has_from id (number + 1) more row q) key) (is q ∙ ap (λ v. lead_without (is_value_of q v) key (old q)) same)
+    ∙ left_by (is_value_of q (unique_at id number columns row)) (has_from id (number + 1) more row q) (is_lead key (old q)) key (old q) refl
 
 -- a value that leads there leads nowhere once it is taken out
-pub left_own : (old : Key → Option (List Value)) (u : Key) (key : List Value) → leads key (old u) ≡ true → (q : Key) → cond (eq_by_cmp key_cmp u q) None (old q) ≡ left (eq_by_cmp key_cmp u q) key (old q)
+pub left_own : (old : Key → Option (List Value)) (u : Key) (key : List Value) → is_lead key (old u) ≡ true → (q : Key) → cond (eq_by_cmp key_cmp u q) None (old q) ≡ lead_without (eq_by_cmp key_cmp u q) key (old q)
 left_own old u key there q =
-    elim (eq_by_cmp key_cmp u q) as (λ b. eq_by_cmp key_cmp u q ≡ b → cond b None (old q) ≡ cond (b && leads key (old q)) None (old q)) [
-      | true ↦ λ b. sym (ap (λ t. cond t None (old q)) (ap (λ k. leads key (old k)) (sym (key_is u q b)) ∙ there))
+    elim (eq_by_cmp key_cmp u q) as (λ b. eq_by_cmp key_cmp u q ≡ b → cond b None (old q) ≡ cond (b && is_lead key (old q)) None (old q)) [
+      | true ↦ λ b. sym (ap (λ t. cond t None (old q)) (ap (λ k. is_lead key (old k)) (sym (key_is u q b)) ∙ there))
       | false ↦ λ b. refl
     ] refl
 
 -- and one that leads elsewhere stays
-pub left_other : (old : Key → Option (List Value)) (u : Key) (key : List Value) → leads key (old u) ≡ false → (q : Key) → old q ≡ left (eq_by_cmp key_cmp u q) key (old q)
+pub left_other : (old : Key → Option (List Value)) (u : Key) (key : List Value) → is_lead key (old u) ≡ false → (q : Key) → old q ≡ lead_without (eq_by_cmp key_cmp u q) key (old q)
 left_other old u key elsewhere q =
-    elim (eq_by_cmp key_cmp u q) as (λ b. eq_by_cmp key_cmp u q ≡ b → old q ≡ cond (b && leads key (old q)) None (old q)) [
-      | true ↦ λ b. sym (ap (λ t. cond t None (old q)) (ap (λ k. leads key (old k)) (sym (key_is u q b)) ∙ elsewhere))
+    elim (eq_by_cmp key_cmp u q) as (λ b. eq_by_cmp key_cmp u q ≡ b → old q ≡ cond (b && is_lead key (old q)) None (old q)) [
+      | true ↦ λ b. sym (ap (λ t. cond t None (old q)) (ap (λ k. is_lead key (old k)) (sym (key_is u q b)) ∙ elsewhere))
       | false ↦ λ b. refl
     ] refl
 
@@ -89,7 +89,7 @@ has_is id number [] row q e = absurd (cc)
 has_is id number (columns ∷ more) row q e =
     let k : Key = record { table = id; index = number; values = values_at row columns } in
     elim (list_any is_null (values_at row columns)) as (λ n. list_any is_null (values_at row columns) ≡ n →
-    (is_key q (if n then None else Some k) || has_from id (number + 1) more row q) ≡ true → Has id number (columns ∷ more) row q) [
+    (is_value_of q (if n then None else Some k) || has_from id (number + 1) more row q) ≡ true → Has id number (columns ∷ more) row q) [
       | true ↦ λ n h. has_later id number columns more row q (has_is id (number + 1) more row q h)
       | false ↦ λ n h.
           elim (eq_by_cmp key_cmp k q) as (λ b. eq_by_cmp key_cmp k q ≡ b → (b || has_from id (number + 1) more row q) ≡ true → Has id number (columns ∷ more) row q) [
@@ -123,11 +123,11 @@ is_had id number (u ∷ us) row q zero columns there full key =
     let k : Key = record { table = id; index = number; values = values_at row u } in
     let is : q ≡ k = key ∙ (λ i. record { table = id; index = place i; values = values_at row (sym same i) }) in
     let none : list_any is_null (values_at row u) ≡ false = ap (λ c. list_any is_null (values_at row c)) same ∙ full in
-    or_first (is_key q (unique_at id number u row)) (has_from id (number + 1) us row q)
-    (ap (λ n. is_key q (if n then None else Some k)) none ∙ ap (eq_by_cmp key_cmp k) is ∙ key_self k)
+    or_first (is_value_of q (unique_at id number u row)) (has_from id (number + 1) us row q)
+    (ap (λ n. is_value_of q (if n then None else Some k)) none ∙ ap (eq_by_cmp key_cmp k) is ∙ key_self k)
 is_had id number (u ∷ us) row q (suc at) columns there full key =
     let place : number + suc at ≡ (number + 1) + at = omega arith in
-    or_second (is_key q (unique_at id number u row)) (has_from id (number + 1) us row q)
+    or_second (is_value_of q (unique_at id number u row)) (has_from id (number + 1) us row q)
     (is_had id (number + 1) us row q at columns there full (key ∙ ap (λ (m : ℕ). record { table = id; index = m; values = values_at row columns }) place))
 
 -- the value is of the table

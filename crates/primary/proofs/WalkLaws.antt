@@ -11,7 +11,7 @@ use Rattle.redo_vec.specs.declared.table.TableRow.{TableRow}
 use Rattle.redo_spec.specs.Tables.{Tables, row_count, definitions_of}
 use Rattle.redo_spec.specs.History.{Committed, Commits, commit_count}
 use Rattle.redo_spec.specs.Skips.{Skip, is_maintained}
-use Rattle.redo_spec.specs.Fold.{Base, Folded, Missed, Reached, commit_effect, tables_at, scn_at, stop_of, stop_at, visible_tables, reached, reached_or, verdict_of, tables_or_base, folded_to}
+use Rattle.redo_spec.specs.Fold.{Base, Folded, Missed, Reached, commit_effect, tables_at, scn_at, stop_of_commit, stop_at, visible_tables, reached, reached_or, verdict_of, tables_or_base, folded_to}
 use Rattle.redo_spec.proofs.FoldLaws.{tables_at-next}
 use Rattle.primary.specs.Progress.{tables_or}
 
@@ -26,7 +26,7 @@ came n scn tables stop = record { n = n; scn = scn; tables = tables; stop = stop
 
 -- why a commit is not applied
 abbrev pub halted : ℕ → Result Tables Missed → Option Verdict
-halted scn r = stop_of scn (map_ok row_count r)
+halted scn r = stop_of_commit scn (map_ok row_count r)
 
 abbrev pub walked_or : Option Verdict → ℕ → ℕ → Tables → Walked → Walked
 walked_or (Some v) n scn tables later = came n scn tables (Some v)
@@ -134,8 +134,8 @@ walk_is_fold b skips cs stop none first (c ∷ more) n scn tables from are t s =
     ∙ ap (λ (j : ℕ). option_map_or (λ d. d.scn) (slice_get cs.made j) b.scn) down
     ∙ ap (λ o. option_map_or (λ d. d.scn) o b.scn) at.got in
     let stops : stop_at b skips cs (n + 1) ≡ halted c.scn after =
-    ap (λ (m : ℕ). stop_of m (map_ok (λ ts. row_count (visible_tables skips (n + 1) b.local ts)) (tables_at b skips cs (n + 1)))) scn_next
-    ∙ ap (λ r. stop_of c.scn r) (rows_seen skips (n + 1) b.local none (tables_at b skips cs (n + 1)))
+    ap (λ (m : ℕ). stop_of_commit m (map_ok (λ ts. row_count (visible_tables skips (n + 1) b.local ts)) (tables_at b skips cs (n + 1)))) scn_next
+    ∙ ap (λ r. stop_of_commit c.scn r) (rows_seen skips (n + 1) b.local none (tables_at b skips cs (n + 1)))
     ∙ ap (λ r. halted c.scn r) next in
     ap (λ o. folded_to b skips cs stop (reached_or o n (reached b skips cs (n + 1) more))) stops
     ∙ folded_by b skips cs stop n scn tables t s (reached b skips cs (n + 1) more) (walk skips (n + 1) c.scn (tables_or tables after) more) (halted c.scn after)

@@ -18,8 +18,8 @@ use Rattle.row_apply.specs.Overlaid.{written_key, writes_rise, overlaid, are_of}
 use Rattle.row_apply.specs.Soundness.{AreSound, AreSoundRows}
 use Rattle.row_apply.proofs.Orders.{row_is, row_self, row_turned, key_self}
 use Rattle.row_apply.proofs.Slots.{find_write, sorted_write}
-use Rattle.primary.specs.ById.{written_beside, written_all, is_added, is_removed, added, removed}
-use Rattle.primary.specs.Unique.{lead_of, has_unique, slot_has, entered, left, rewritten_in, after_write, LeadsToRows, IsIndexed}
+use Rattle.primary.specs.ById.{rows_after_write, rows_after_writes, is_added, is_removed, added_count, removed_count}
+use Rattle.primary.specs.Unique.{lead_of, has_unique, slot_has_unique, lead_with, lead_without, lead_after_row_in, lead_after_write, LeadsToRows, IsIndexed}
 use Rattle.primary.specs.declared.unique_index.UniqueIndex.{UniqueIndex}
 use Rattle.primary.proofs.MapLemmas.{left_true, right_true, less_is}
 use Rattle.primary.proofs.TableLaws.{equal_numbers, rows_written, rows_counted, assembled_written}
@@ -96,20 +96,20 @@ find_if true key q slot rows = find_write q key slot rows
 find_if false key q slot rows = refl
 
 pub find_beside : (by : RowsById) (w : Write) (id : ℕ) (q : List Value) →
-    entries.find row_cmp q (rows_by (written_beside by w w.row) id) ≡ cond ((w.table == id) && eq_by_cmp row_cmp q w.key) w.row (entries.find row_cmp q (rows_by by id))
+    entries.find row_cmp q (rows_by (rows_after_write by w w.row) id) ≡ cond ((w.table == id) && eq_by_cmp row_cmp q w.key) w.row (entries.find row_cmp q (rows_by by id))
 find_beside by w id q = ap (entries.find row_cmp q) (rows_written by w id) ∙ find_if (w.table == id) w.key q w.row (rows_by by id)
 
 -- a row that is not written is there as before
-pub find_unwritten : (by : RowsById) (ws : List Write) (id : ℕ) (q : List Value) → is_written id q ws ≡ false → entries.find row_cmp q (rows_by (written_all by ws) id) ≡ entries.find row_cmp q (rows_by by id)
+pub find_unwritten : (by : RowsById) (ws : List Write) (id : ℕ) (q : List Value) → is_written id q ws ≡ false → entries.find row_cmp q (rows_by (rows_after_writes by ws) id) ≡ entries.find row_cmp q (rows_by by id)
 find_unwritten by [] id q free = refl
 find_unwritten by (w ∷ ws) id q free =
     let p = neither ((w.table == id) && eq_by_cmp row_cmp q w.key) (is_written id q ws) free in
-    find_unwritten (written_beside by w w.row) ws id q p.1 ∙ find_beside by w id q ∙ ap (λ b. cond b w.row (entries.find row_cmp q (rows_by by id))) p.0
+    find_unwritten (rows_after_write by w w.row) ws id q p.1 ∙ find_beside by w id q ∙ ap (λ b. cond b w.row (entries.find row_cmp q (rows_by by id))) p.0
 
 -- the written row is there
-pub find_first : (by : RowsById) (w : Write) (ws : List Write) → is_written w.table w.key ws ≡ false → entries.find row_cmp w.key (rows_by (written_all by (w ∷ ws)) w.table) ≡ w.row
+pub find_first : (by : RowsById) (w : Write) (ws : List Write) → is_written w.table w.key ws ≡ false → entries.find row_cmp w.key (rows_by (rows_after_writes by (w ∷ ws)) w.table) ≡ w.row
 find_first by w ws free =
-    find_unwritten (written_beside by w w.row) ws w.table w.key free ∙ find_beside by w w.table w.key
+    find_unwritten (rows_after_write by w w.row) ws w.table w.key free ∙ find_beside by w w.table w.key
     ∙ ap (λ b. cond b w.row (entries.find row_cmp w.key (rows_by by w.table))) (both_hold (w.table == w.table) (eq_by_cmp row_cmp w.key w.key) (self_number w.table) (row_self w.key))
 
 -- ---- how many rows there are
@@ -125,7 +125,7 @@ sorted_if : (b : Bool) (key : List Value) (slot : Option (List Value)) (rows : R
 sorted_if true key slot rows h = sorted_write key slot rows h
 sorted_if false key slot rows h = h
 
-rise_beside : (ts : List TableRow) (by : RowsById) (w : Write) → Rise ts by → Rise ts (written_beside by w w.row)
+rise_beside : (ts : List TableRow) (by : RowsById) (w : Write) → Rise ts by → Rise ts (rows_after_write by w w.row)
 rise_beside ts by w rise id t is = subst (λ (rows : Rows). T (entries.is_sorted row_cmp rows)) (sym (rows_written by w id)) (sorted_if (w.table == id) w.key w.row (rows_by by id) (rise id t is))
 
 flip_add : (f : Bool) (l : ℕ) → cond f l (l + 1) ≡ l + cond (not f) 1 0
@@ -151,52 +151,52 @@ past_id : (id from : ℕ) → id < from → (t : ℕ) → from ≤ t → (id == 
 past_id id from before t after = grind (arith, nat_tests)
 
 -- tables of higher ids have as many rows as before
-count_past : (from : ℕ) (ts : List TableRow) (by : RowsById) (w : Write) → ids_rise from ts ≡ true → w.table < from → row_count (assembled ts (written_beside by w w.row)) ≡ row_count (assembled ts by)
+count_past : (from : ℕ) (ts : List TableRow) (by : RowsById) (w : Write) → ids_rise from ts ≡ true → w.table < from → row_count (assembled ts (rows_after_write by w w.row)) ≡ row_count (assembled ts by)
 count_past from [] by w rise before = refl
 count_past from (t ∷ ts) by w rise before =
     let low = below_true from t.id (left_true (nat_le from t.id) (ids_rise (t.id + 1) ts) rise) in
     let later = count_past (t.id + 1) ts by w (right_true (nat_le from t.id) (ids_rise (t.id + 1) ts) rise) (omega (arith, low, before)) in
-    let own : rows_by (written_beside by w w.row) t.id ≡ rows_by by t.id = rows_written by w t.id ∙ ap (λ b. cond b (write_row (rows_by by t.id) w.key w.row) (rows_by by t.id)) (past_id w.table from before t.id low) in
-    rows_counted t ts (written_beside by w w.row) ∙ (λ i. length (own i) + later i) ∙ sym (rows_counted t ts by)
+    let own : rows_by (rows_after_write by w w.row) t.id ≡ rows_by by t.id = rows_written by w t.id ∙ ap (λ b. cond b (write_row (rows_by by t.id) w.key w.row) (rows_by by t.id)) (past_id w.table from before t.id low) in
+    rows_counted t ts (rows_after_write by w w.row) ∙ (λ i. length (own i) + later i) ∙ sym (rows_counted t ts by)
 
 turned_id : (a b : ℕ) → (a == b) ≡ (b == a)
 turned_id a b = grind (arith, nat_tests)
 
 -- one write more
 count_beside : (from : ℕ) (ts : List TableRow) (by : RowsById) (w : Write) → ids_rise from ts ≡ true → is_some (table_of ts w.table) ≡ true → T (entries.is_sorted row_cmp (rows_by by w.table)) →
-    row_count (assembled ts (written_beside by w w.row)) + cond (is_removed by w) 1 0 ≡ row_count (assembled ts by) + cond (is_added by w) 1 0
+    row_count (assembled ts (rows_after_write by w w.row)) + cond (is_removed by w) 1 0 ≡ row_count (assembled ts by) + cond (is_added by w) 1 0
 count_beside from [] by w rise there sorted = absurd (cc)
 count_beside from (t ∷ ts) by w rise there sorted =
-    let now = rows_counted t ts (written_beside by w w.row) in
+    let now = rows_counted t ts (rows_after_write by w w.row) in
     let was = rows_counted t ts by in
     let on = right_true (nat_le from t.id) (ids_rise (t.id + 1) ts) rise in
     elim (t.id == w.table) as (λ b. (t.id == w.table) ≡ b → is_some (cond b (Some t) (table_of ts w.table)) ≡ true →
-    row_count (assembled (t ∷ ts) (written_beside by w w.row)) + cond (is_removed by w) 1 0 ≡ row_count (assembled (t ∷ ts) by) + cond (is_added by w) 1 0) [
+    row_count (assembled (t ∷ ts) (rows_after_write by w w.row)) + cond (is_removed by w) 1 0 ≡ row_count (assembled (t ∷ ts) by) + cond (is_added by w) 1 0) [
       | true ↦ λ b h.
           let same : t.id ≡ w.table = equal_numbers t.id w.table b in
-          let own : rows_by (written_beside by w w.row) t.id ≡ write_row (rows_by by w.table) w.key w.row =
-          ap (rows_by (written_beside by w w.row)) same ∙ rows_written by w w.table ∙ ap (λ c. cond c (write_row (rows_by by w.table) w.key w.row) (rows_by by w.table)) (self_number w.table) in
-          let size : length (rows_by (written_beside by w w.row) t.id) ≡ length (write_row (rows_by by w.table) w.key w.row) = ap length own in
+          let own : rows_by (rows_after_write by w w.row) t.id ≡ write_row (rows_by by w.table) w.key w.row =
+          ap (rows_by (rows_after_write by w w.row)) same ∙ rows_written by w w.table ∙ ap (λ c. cond c (write_row (rows_by by w.table) w.key w.row) (rows_by by w.table)) (self_number w.table) in
+          let size : length (rows_by (rows_after_write by w w.row) t.id) ≡ length (write_row (rows_by by w.table) w.key w.row) = ap length own in
           let old : length (rows_by by t.id) ≡ length (rows_by by w.table) = ap (λ id. length (rows_by by id)) same in
           let others = count_past (t.id + 1) ts by w on (omega (arith, same)) in
           let one = length_write w.key w.row (rows_by by w.table) sorted in
           omega (arith, now, was, size, old, others, one)
       | false ↦ λ b h.
-          let own : rows_by (written_beside by w w.row) t.id ≡ rows_by by t.id =
+          let own : rows_by (rows_after_write by w w.row) t.id ≡ rows_by by t.id =
           rows_written by w t.id ∙ ap (λ c. cond c (write_row (rows_by by t.id) w.key w.row) (rows_by by t.id)) (turned_id w.table t.id ∙ b) in
-          let size : length (rows_by (written_beside by w w.row) t.id) ≡ length (rows_by by t.id) = ap length own in
+          let size : length (rows_by (rows_after_write by w w.row) t.id) ≡ length (rows_by by t.id) = ap length own in
           let others = count_beside (t.id + 1) ts by w on h sorted in
           omega (arith, now, was, size, others)
     ] refl there
 
 -- the other writes find what they found before the first
 same_look : (by : RowsById) (w v : Write) → ((v.table == w.table) && eq_by_cmp row_cmp w.key v.key) ≡ false →
-    entries.find row_cmp v.key (rows_by by v.table) ≡ entries.find row_cmp v.key (rows_by (written_beside by w w.row) v.table)
+    entries.find row_cmp v.key (rows_by by v.table) ≡ entries.find row_cmp v.key (rows_by (rows_after_write by w w.row) v.table)
 same_look by w v free =
     let turned : ((w.table == v.table) && eq_by_cmp row_cmp v.key w.key) ≡ ((v.table == w.table) && eq_by_cmp row_cmp w.key v.key) = λ i. turned_id w.table v.table i && row_turned v.key w.key i in
     sym (find_beside by w v.table v.key ∙ ap (λ b. cond b w.row (entries.find row_cmp v.key (rows_by by v.table))) (turned ∙ free))
 
-added_on : (by : RowsById) (w : Write) (ws : List Write) → is_written w.table w.key ws ≡ false → added by ws ≡ added (written_beside by w w.row) ws
+added_on : (by : RowsById) (w : Write) (ws : List Write) → is_written w.table w.key ws ≡ false → added_count by ws ≡ added_count (rows_after_write by w w.row) ws
 added_on by w [] free = refl
 added_on by w (v ∷ vs) free =
     let p = neither ((v.table == w.table) && eq_by_cmp row_cmp w.key v.key) (is_written w.table w.key vs) free in
@@ -204,7 +204,7 @@ added_on by w (v ∷ vs) free =
     let later = added_on by w vs p.1 in
     λ i. cond (is_some v.row && not (is_some (look i))) 1 0 + later i
 
-removed_on : (by : RowsById) (w : Write) (ws : List Write) → is_written w.table w.key ws ≡ false → removed by ws ≡ removed (written_beside by w w.row) ws
+removed_on : (by : RowsById) (w : Write) (ws : List Write) → is_written w.table w.key ws ≡ false → removed_count by ws ≡ removed_count (rows_after_write by w w.row) ws
 removed_on by w [] free = refl
 removed_on by w (v ∷ vs) free =
     let p = neither ((v.table == w.table) && eq_by_cmp row_cmp w.key v.key) (is_written w.table w.key vs) free in
@@ -217,34 +217,34 @@ some_is None e = absurd (cc)
 some_is (Some x) e = (x, refl)
 
 count_all : (ts : List TableRow) (by : RowsById) (ws : List Write) → ids_rise 0 ts ≡ true → Rise ts by → are_of ts ws ≡ true → writes_rise ws ≡ true →
-    row_count (assembled ts (written_all by ws)) + removed by ws ≡ row_count (assembled ts by) + added by ws
+    row_count (assembled ts (rows_after_writes by ws)) + removed_count by ws ≡ row_count (assembled ts by) + added_count by ws
 count_all ts by [] ids rise of rising = refl
 count_all ts by (w ∷ ws) ids rise of rising =
     let there : is_some (table_of ts w.table) ≡ true = left_true (is_some (table_of ts w.table)) (are_of ts ws) of in
     let table = some_is (table_of ts w.table) there in
     let free = not_again w ws rising in
     let one = count_beside 0 ts by w ids there (rise w.table table.0 table.1) in
-    let later = count_all ts (written_beside by w w.row) ws ids (rise_beside ts by w rise) (right_true (is_some (table_of ts w.table)) (are_of ts ws) of) (rise_on w ws rising) in
+    let later = count_all ts (rows_after_write by w w.row) ws ids (rise_beside ts by w rise) (right_true (is_some (table_of ts w.table)) (are_of ts ws) of) (rise_on w ws rising) in
     let more = added_on by w ws free in
     let fewer = removed_on by w ws free in
     omega (arith, one, later, more, fewer)
 
 -- as many rows as before, and those added, without those removed
 pub counted_after : (ts : List TableRow) (by : RowsById) (ws : List Write) → ids_rise 0 ts ≡ true → AreSound (assembled ts by) → are_of ts ws ≡ true → writes_rise ws ≡ true →
-    row_count (overlaid (assembled ts by) ws) + removed by ws ≡ row_count (assembled ts by) + added by ws
+    row_count (overlaid (assembled ts by) ws) + removed_count by ws ≡ row_count (assembled ts by) + added_count by ws
 counted_after ts by ws ids sound of rising =
-    ap (λ us. row_count us + removed by ws) (sym (assembled_written ts by ws)) ∙ count_all ts by ws ids (rise_sound ts by sound) of rising
+    ap (λ us. row_count us + removed_count by ws) (sym (assembled_written ts by ws)) ∙ count_all ts by ws ids (rise_sound ts by sound) of rising
 
 -- ---- the index
 
 -- as writes go on: the index leads to each row of the tables after them that is not yet to be written
 pub record Indexing (ts : List TableRow) (final now : RowsById) (rest : List Write) (index : UniqueIndex) : Type 0 where
-  pub same : written_all now rest ≡ final
+  pub same : rows_after_writes now rest ≡ final
   pub rising : writes_rise rest ≡ true
   pub led : (id : ℕ) (t : TableRow) (key row : List Value) (q : Key) → table_of ts id ≡ Some t → entries.find row_cmp key (rows_by final id) ≡ Some row → has_unique t row q ≡ true → is_written id key rest ≡ false →
       lead_of index q ≡ Some key
 
-pub indexing_begins : (ts : List TableRow) (by : RowsById) (ws : List Write) (index : UniqueIndex) → writes_rise ws ≡ true → IsIndexed ts by index → Indexing ts (written_all by ws) by ws index
+pub indexing_begins : (ts : List TableRow) (by : RowsById) (ws : List Write) (index : UniqueIndex) → writes_rise ws ≡ true → IsIndexed ts by index → Indexing ts (rows_after_writes by ws) by ws index
 indexing_begins ts by ws index rising indexed = record {
   same = refl;
   rising = rising;
@@ -254,12 +254,12 @@ indexing_begins ts by ws index rising indexed = record {
 pub indexing_done : (ts : List TableRow) (final now : RowsById) (index : UniqueIndex) → Indexing ts final now [] index → IsIndexed ts now index
 indexing_done ts final now index s id t is key row q found has = s.led id t key row q is (ap (λ by. entries.find row_cmp key (rows_by by id)) (sym s.same) ∙ found) has refl
 
-slot_some : (t : TableRow) (o : Option (List Value)) (q : Key) → slot_has t o q ≡ true → (row : List Value) × ((o ≡ Some row) × (has_unique t row q ≡ true))
+slot_some : (t : TableRow) (o : Option (List Value)) (q : Key) → slot_has_unique t o q ≡ true → (row : List Value) × ((o ≡ Some row) × (has_unique t row q ≡ true))
 slot_some t None q e = absurd (cc)
 slot_some t (Some row) q e = (row, (refl, e))
 
 -- what leads to another row still does
-kept_lead : (e l : Bool) (written key : List Value) → e ≡ false → (l ≡ true → eq_by_cmp row_cmp key written ≡ false) → entered e written (left l written (Some key)) ≡ Some key
+kept_lead : (e l : Bool) (written key : List Value) → e ≡ false → (l ≡ true → eq_by_cmp row_cmp key written ≡ false) → lead_with e written (lead_without l written (Some key)) ≡ Some key
 kept_lead true l written key never other = absurd (cc)
 kept_lead false true written key never other = ap (λ b. cond b None (Some key)) (other refl)
 kept_lead false false written key never other = refl
@@ -269,9 +269,9 @@ apart true b p e = e
 apart false b p e = absurd (cc)
 
 pub indexing_more : (ts : List TableRow) (final now after : RowsById) (w : Write) (rest : List Write) (old new : UniqueIndex) → Indexing ts final now (w ∷ rest) old → AreSound (assembled ts final) →
-    ((q : Key) → lead_of new q ≡ after_write ts now w q (lead_of old q)) → after ≡ written_beside now w w.row → Indexing ts final after rest new
+    ((q : Key) → lead_of new q ≡ lead_after_write ts now w q (lead_of old q)) → after ≡ rows_after_write now w w.row → Indexing ts final after rest new
 indexing_more ts final now after w rest old new s sound follows is = record {
-  same = ap (λ by. written_all by rest) is ∙ s.same;
+  same = ap (λ by. rows_after_writes by rest) is ∙ s.same;
   rising = rise_on w rest s.rising;
   led = λ id t key row q table found has free. follows q ∙ by id t key row q table found has free ((w.table == id) && eq_by_cmp row_cmp key w.key) refl;
 }
@@ -283,11 +283,11 @@ indexing_more ts final now after w rest old new s sound follows is = record {
     written = ap (λ us. entries.find row_cmp w.key (rows_by us w.table)) (sym s.same) ∙ find_first now w rest (not_again w rest s.rising)
 
     else : (id : ℕ) (t : TableRow) (key row : List Value) (q : Key) (o : Option TableRow) → table_of ts w.table ≡ o → table_of ts id ≡ Some t → entries.find row_cmp key (rows_by final id) ≡ Some row → has_unique t row q ≡ true →
-        ((w.table == id) && eq_by_cmp row_cmp key w.key) ≡ false → rewritten_in o w.key was w.row q (Some key) ≡ Some key
+        ((w.table == id) && eq_by_cmp row_cmp key w.key) ≡ false → lead_after_row_in o w.key was w.row q (Some key) ≡ Some key
     else id t key row q None at table found has other = refl
     else id t key row q (Some u) at table found has other =
-        kept_lead (slot_has u w.row q) (slot_has u was q) w.key key
-        (is_not (slot_has u w.row q) (λ holds. never holds))
+        kept_lead (slot_has_unique u w.row q) (slot_has_unique u was q) w.key key
+        (is_not (slot_has_unique u w.row q) (λ holds. never holds))
         (λ holds. let p = slot_some u was q holds in tie (has_table u p.0 q p.1.1))
       where
         own : q.table ≡ id
@@ -299,7 +299,7 @@ indexing_more ts final now after w rest old new s sound follows is = record {
             let number : w.table ≡ id = sym (table_id ts w.table u at) ∙ sym of ∙ own in
             apart (w.table == id) (eq_by_cmp row_cmp key w.key) (ap (λ (n : ℕ). n == id) number ∙ self_number id) other
 
-        never : slot_has u w.row q ≡ true → ⊥
+        never : slot_has_unique u w.row q ≡ true → ⊥
         never holds =
             let p = slot_some u w.row q holds in
             let number : w.table ≡ id = sym (table_id ts w.table u at) ∙ sym (has_table u p.0 q p.1.1) ∙ own in
@@ -312,16 +312,16 @@ indexing_more ts final now after w rest old new s sound follows is = record {
             cc
 
     by : (id : ℕ) (t : TableRow) (key row : List Value) (q : Key) → table_of ts id ≡ Some t → entries.find row_cmp key (rows_by final id) ≡ Some row → has_unique t row q ≡ true → is_written id key rest ≡ false →
-        (b : Bool) → ((w.table == id) && eq_by_cmp row_cmp key w.key) ≡ b → after_write ts now w q (lead_of old q) ≡ Some key
+        (b : Bool) → ((w.table == id) && eq_by_cmp row_cmp key w.key) ≡ b → lead_after_write ts now w q (lead_of old q) ≡ Some key
     by id t key row q table found has free true tie =
         let number : w.table ≡ id = equal_numbers w.table id (left_true (w.table == id) _ tie) in
         let same : key ≡ w.key = row_is key w.key (right_true (w.table == id) _ tie) in
         let slot : w.row ≡ Some row = sym written ∙ (λ i. entries.find row_cmp (sym same i) (rows_by final (number i))) ∙ found in
-        (λ i. rewritten_in (((ap (table_of ts) number) ∙ table) i) w.key was (slot i) q (lead_of old q))
-        ∙ ap (λ b. entered b w.key (left (slot_has t was q) w.key (lead_of old q))) has
+        (λ i. lead_after_row_in (((ap (table_of ts) number) ∙ table) i) w.key was (slot i) q (lead_of old q))
+        ∙ ap (λ b. lead_with b w.key (lead_without (slot_has_unique t was q) w.key (lead_of old q))) has
         ∙ ap Some (sym same)
     by id t key row q table found has free false tie =
-        ap (after_write ts now w q) (s.led id t key row q table found has (either ((w.table == id) && eq_by_cmp row_cmp key w.key) (is_written id key rest) tie free))
+        ap (lead_after_write ts now w q) (s.led id t key row q table found has (either ((w.table == id) && eq_by_cmp row_cmp key w.key) (is_written id key rest) tie free))
         ∙ else id t key row q (table_of ts w.table) refl table found has tie
 
 -- ---- the index of the rows at the start
@@ -361,12 +361,12 @@ none_below key (r ∷ rs) h =
 
 -- a row that comes later has another key
 pub entering_more : (t : TableRow) (all : Rows) (k x : List Value) (rest : Rows) (before old new : UniqueIndex) → Entering t all ((k, x) ∷ rest) before old →
-    ((q : Key) → lead_of new q ≡ entered (has_unique t x q) k (lead_of old q)) → Entering t all rest before new
+    ((q : Key) → lead_of new q ≡ lead_with (has_unique t x q) k (lead_of old q)) → Entering t all rest before new
 entering_more t all k x rest before old new s follows = record {
   sorted = and_second (entries.below_all row_cmp k rest) (entries.is_sorted row_cmp rest) s.sorted;
   alike = λ key row found. s.alike key row (later key row found);
   led = λ sound key row q found has none. follows q ∙ by sound key row q found has none (eq_by_cmp row_cmp key k) refl;
-  others = λ q other. follows q ∙ ap (λ b. entered b k (lead_of old q)) (is_not (has_unique t x q) (λ has.
+  others = λ q other. follows q ∙ ap (λ b. lead_with b k (lead_of old q)) (is_not (has_unique t x q) (λ has.
       let same : (q.table == t.id) ≡ true = ap (λ (n : ℕ). n == t.id) (has_table t x q has) ∙ self_number t.id in
       cc)) ∙ s.others q other;
 }
@@ -385,14 +385,14 @@ entering_more t all k x rest before old new s follows = record {
     own = s.alike k x (ap (λ b. cond b (Some x) (entries.find row_cmp k rest)) (row_self k))
 
     by : AreSoundRows t all → (key row : List Value) (q : Key) → entries.find row_cmp key all ≡ Some row → has_unique t row q ≡ true → entries.find row_cmp key rest ≡ None → (b : Bool) → eq_by_cmp row_cmp key k ≡ b →
-        entered (has_unique t x q) k (lead_of old q) ≡ Some key
+        lead_with (has_unique t x q) k (lead_of old q) ≡ Some key
     by sound key row q found has none true tie =
         let same : key ≡ k = row_is key k tie in
         let rows_same : Some row ≡ Some x = sym found ∙ ap (λ l. entries.find row_cmp l all) same ∙ own in
         let one : row ≡ x = cc in
-        ap (λ b. entered b k (lead_of old q)) (ap (λ r. has_unique t r q) (sym one) ∙ has) ∙ ap Some (sym same)
+        ap (λ b. lead_with b k (lead_of old q)) (ap (λ r. has_unique t r q) (sym one) ∙ has) ∙ ap Some (sym same)
     by sound key row q found has none false tie =
-        ap (λ b. entered b k (lead_of old q)) (is_not (has_unique t x q) (λ x_has.
+        ap (λ b. lead_with b k (lead_of old q)) (is_not (has_unique t x q) (λ x_has.
         let same : key ≡ k = one_has t all key k row x q sound found own has x_has in
         let ties : eq_by_cmp row_cmp key k ≡ true = ap (λ l. eq_by_cmp row_cmp l k) same ∙ row_self k in
         cc))

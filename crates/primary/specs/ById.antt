@@ -30,14 +30,14 @@ abbrev pub without_row : RowsById → ℕ → List Value → RowsById
 without_row by id key = take_from by id key (table_in by id)
 
 -- after a write, which puts a row or takes one away
-abbrev pub written_beside : RowsById → Write → Option (List Value) → RowsById
-written_beside by w None = without_row by w.table w.key
-written_beside by w (Some row) = with_row by w.table w.key row
+abbrev pub rows_after_write : RowsById → Write → Option (List Value) → RowsById
+rows_after_write by w None = without_row by w.table w.key
+rows_after_write by w (Some row) = with_row by w.table w.key row
 
 -- after all of these
-abbrev pub written_all : RowsById → List Write → RowsById
-written_all by [] = by
-written_all by (w ∷ ws) = written_all (written_beside by w w.row) ws
+abbrev pub rows_after_writes : RowsById → List Write → RowsById
+rows_after_writes by [] = by
+rows_after_writes by (w ∷ ws) = rows_after_writes (rows_after_write by w w.row) ws
 
 -- a write that puts a row where none is, and one that takes a row away
 abbrev pub is_added : RowsById → Write → Bool
@@ -47,10 +47,10 @@ abbrev pub is_removed : RowsById → Write → Bool
 is_removed by w = not (is_some w.row) && is_some (entries.find row_cmp w.key (rows_by by w.table))
 
 -- how many of the writes do so
-abbrev pub added : RowsById → List Write → ℕ
-added by [] = 0
-added by (w ∷ ws) = cond (is_added by w) 1 0 + added by ws
+abbrev pub added_count : RowsById → List Write → ℕ
+added_count by [] = 0
+added_count by (w ∷ ws) = cond (is_added by w) 1 0 + added_count by ws
 
-abbrev pub removed : RowsById → List Write → ℕ
-removed by [] = 0
-removed by (w ∷ ws) = cond (is_removed by w) 1 0 + removed by ws
+abbrev pub removed_count : RowsById → List Write → ℕ
+removed_count by [] = 0
+removed_count by (w ∷ ws) = cond (is_removed by w) 1 0 + removed_count by ws

@@ -12,13 +12,13 @@ use Rattle.redo_vec.specs.declared.table.TableRow.{TableRow}
 use Rattle.redo_spec.specs.ChangeForm.{is_row_of}
 use Rattle.redo_spec.specs.Dictionary.{uniques_of}
 use Rattle.redo_spec.specs.Tables.{Rows, RowsById, rows_by, primary_key}
-use Rattle.primary.specs.Unique.{lead_of, leads, unique_at}
+use Rattle.primary.specs.Unique.{lead_of, is_lead, unique_at}
 use Rattle.primary.specs.declared.unique_index.UniqueIndex.{UniqueIndex}
 
 -- the unique value leads to this primary key, if there is one
 abbrev pub value_leads : UniqueIndex → List Value → Option Key → Bool
 value_leads index key None = true
-value_leads index key (Some q) = leads key (lead_of index q)
+value_leads index key (Some q) = is_lead key (lead_of index q)
 
 -- each unique value of the row leads to it; its unique keys count from this number
 abbrev pub leads_from : UniqueIndex → ℕ → ℕ → List (List ℕ) → List Value → List Value → Bool

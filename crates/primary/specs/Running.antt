@@ -13,7 +13,7 @@ use Rattle.redo_spec.specs.Tables.{Tables, RowsById}
 use Rattle.redo_spec.specs.Fold.{Missed}
 use Rattle.redo_spec.specs.Tables.{assembled, row_count}
 use Rattle.row_apply.specs.Soundness.{AreSound}
-use Rattle.primary.specs.Progress.{OpenChanges, changes_of, xid_cmp, tables_shown, waiting_until, Ahead, Progress, Going, Ended, held_at}
+use Rattle.primary.specs.Progress.{OpenChanges, changes_of, xid_cmp, tables_shown, waiting_until, FoldState, Progress, Going, Ended, held_at}
 use Rattle.primary.specs.Unique.{IsIndexed}
 use Rattle.primary.specs.declared.running.Running.{Running}
 use Rattle.primary.specs.declared.unique_index.UniqueIndex.{UniqueIndex}
@@ -30,7 +30,7 @@ pub record Opens (s : Standing) (live : OpenChanges) : Type 0 where
   pub alike : (y : Xid) → is_open s y ≡ is_some (changes_of y live)
 
 -- the changes are those of the open transactions, accepted by the dictionary; before it is whole there are none
-pub record Fits (s : Standing) (live : OpenChanges) : Type 0 where
+pub record FitsStanding (s : Standing) (live : OpenChanges) : Type 0 where
   pub opens : Opens s live
   pub accepted : (y : Xid) (ps : List Placed) → changes_of y live ≡ Some ps → AreAccepted s.dictionary.tables ps
   pub none : s.dictionary.finished ≡ false → live ≡ []
@@ -47,28 +47,28 @@ abbrev pub tables_of : Running → Tables
 tables_of r = tables_shown r.whole r.law.dictionary.tables r.tables
 
 -- what it is seen as
-abbrev pub ahead_of : Running → Ahead
-ahead_of r = record { standing = r.law; live = r.live; made = r.made; n = r.n; scn = r.scn; waiting = waiting_until r.whole r.tables; tables = tables_of r }
+abbrev pub fold_state_of : Running → FoldState
+fold_state_of r = record { standing = r.law; live = r.live; made = r.made; n = r.n; scn = r.scn; waiting = waiting_until r.whole r.tables; tables = tables_of r }
 
 -- and where it ends, if it does
 abbrev pub progress_of : Option Verdict → Running → Progress
-progress_of None r = Going (ahead_of r)
-progress_of (Some v) r = Ended (held_at (ahead_of r) v)
+progress_of None r = Going (fold_state_of r)
+progress_of (Some v) r = Ended (held_at (fold_state_of r) v)
 
 -- beside rows: the index of their unique values, and how many they are
 pub record AreKept (ts : List TableRow) (by : RowsById) (index : UniqueIndex) (count : ℕ) : Type 0 where
   pub indexed : IsIndexed ts by index
   pub counted : count ≡ row_count (assembled ts by)
 
-abbrev pub IsKept : Running → Type 0
-IsKept r = AreKept r.law.dictionary.tables r.tables r.index r.count
+abbrev pub KeepsRows : Running → Type 0
+KeepsRows r = AreKept r.law.dictionary.tables r.tables r.index r.count
 
 pub record IsRunning (r : Running) : Type 0 where
-  pub fits : Fits r.law r.live
+  pub fits : FitsStanding r.law r.live
   pub whole : r.whole ≡ r.law.dictionary.finished
   pub rec : r.rec ≡ r.law.rec
   pub sound : AreSound (tables_of r)
-  pub kept : r.whole ≡ true → IsKept r
+  pub kept : r.whole ≡ true → KeepsRows r
 
 -- a COMMIT of these changes may come: the dictionary is whole and accepts them
 pub record MayCommit (r : Running) (ps : List Placed) : Type 0 where

@@ -11,11 +11,11 @@ use Rattle.redo_law.specs.Calls.{standing_of}
 use Rattle.row_apply.specs.Soundness.{AreSound}
 use Rattle.primary.specs.declared.plain.Plain.{Plain}
 use Rattle.primary.specs.declared.plain.Folded.{Folded as Plainly}
-use Rattle.primary.specs.Progress.{tables_shown, waiting_until, Progress, Ahead, Going, after_records}
+use Rattle.primary.specs.Progress.{tables_shown, waiting_until, Progress, FoldState, Going, progress_after_records}
 
 -- what a plain fold says
-abbrev pub shown : Plainly → Folded
-shown f = record { n = f.n; scn = f.scn; tables = tables_shown f.whole f.dict.tables f.tables; names = f.dict.tables; verdict = f.end }
+abbrev pub folded_of : Plainly → Folded
+folded_of f = record { n = f.n; scn = f.scn; tables = tables_shown f.whole f.dict.tables f.tables; names = f.dict.tables; verdict = f.end }
 
 -- the base of a fold that begins so, by the dictionary that its records leave
 abbrev pub base_of : Plain → Standing → Base
@@ -35,8 +35,8 @@ pub record IsStart (start : Plain) (entries : List Entry) : Type 0 where
   pub counted : start.before ≤ start.n
 
 -- what a fold goes on with that begins so
-abbrev pub first_ahead : Plain → Ahead
-first_ahead start = record {
+abbrev pub first_state : Plain → FoldState
+first_state start = record {
   standing = standing_of start.law;
   live = [];
   made = start.before;
@@ -47,12 +47,12 @@ first_ahead start = record {
 }
 
 -- the progress of a fold that begins so, before its first record
-abbrev pub begun : Plain → Progress
-begun start = Going (first_ahead start)
+abbrev pub first_progress : Plain → Progress
+first_progress start = Going (first_state start)
 
 -- the progress of a fold that began so, after these records
-abbrev pub after : Plain → List Skip → List Entry → Progress
-after start skips entries = after_records skips entries (begun start)
+abbrev pub progress_after : Plain → List Skip → List Entry → Progress
+progress_after start skips entries = progress_after_records skips entries (first_progress start)
 
 -- the start before the first record of a redo whose first log has this sequence and follows this SCN, over empty tables
 abbrev pub first_start : ℕ → ℕ → Plain

@@ -25,48 +25,48 @@ abbrev pub unique_at : ℕ → ℕ → List ℕ → List Value → Option Key
 unique_at table number columns row =
     if list_any is_null (values_at row columns) then None else Some (record { table = table; index = number; values = values_at row columns })
 
-abbrev pub is_key : Key → Option Key → Bool
-is_key q None = false
-is_key q (Some k) = eq_by_cmp key_cmp k q
+abbrev pub is_value_of : Key → Option Key → Bool
+is_value_of q None = false
+is_value_of q (Some k) = eq_by_cmp key_cmp k q
 
 -- a row has this unique value; its unique keys count from this number
 abbrev pub has_from : ℕ → ℕ → List (List ℕ) → List Value → Key → Bool
 has_from table number [] row q = false
-has_from table number (columns ∷ more) row q = is_key q (unique_at table number columns row) || has_from table (number + 1) more row q
+has_from table number (columns ∷ more) row q = is_value_of q (unique_at table number columns row) || has_from table (number + 1) more row q
 
 -- a row of the table has this unique value
 abbrev pub has_unique : TableRow → List Value → Key → Bool
 has_unique t row q = has_from t.id 1 (uniques_of t) row q
 
 -- the row that stands there has it, if one does
-abbrev pub slot_has : TableRow → Option (List Value) → Key → Bool
-slot_has t None q = false
-slot_has t (Some row) q = has_unique t row q
+abbrev pub slot_has_unique : TableRow → Option (List Value) → Key → Bool
+slot_has_unique t None q = false
+slot_has_unique t (Some row) q = has_unique t row q
 
 -- it leads to this primary key
-abbrev pub leads : List Value → Option (List Value) → Bool
-leads key None = false
-leads key (Some found) = eq_by_cmp row_cmp found key
+abbrev pub is_lead : List Value → Option (List Value) → Bool
+is_lead key None = false
+is_lead key (Some found) = eq_by_cmp row_cmp found key
 
 -- where a value leads once those of this row lead to it
-abbrev pub entered : Bool → List Value → Option (List Value) → Option (List Value)
-entered has key lead = cond has (Some key) lead
+abbrev pub lead_with : Bool → List Value → Option (List Value) → Option (List Value)
+lead_with has key lead = cond has (Some key) lead
 
 -- where a value leads once those of this row lead to it no more
-abbrev pub left : Bool → List Value → Option (List Value) → Option (List Value)
-left has key lead = cond (has && leads key lead) None lead
+abbrev pub lead_without : Bool → List Value → Option (List Value) → Option (List Value)
+lead_without has key lead = cond (has && is_lead key lead) None lead
 
 -- where a value leads after a write of the row of this key: what stood there no longer leads there, what is written does
-abbrev pub rewritten : TableRow → List Value → Option (List Value) → Option (List Value) → Key → Option (List Value) → Option (List Value)
-rewritten t key was slot q lead = entered (slot_has t slot q) key (left (slot_has t was q) key lead)
+abbrev pub lead_after_row : TableRow → List Value → Option (List Value) → Option (List Value) → Key → Option (List Value) → Option (List Value)
+lead_after_row t key was slot q lead = lead_with (slot_has_unique t slot q) key (lead_without (slot_has_unique t was q) key lead)
 
-abbrev pub rewritten_in : Option TableRow → List Value → Option (List Value) → Option (List Value) → Key → Option (List Value) → Option (List Value)
-rewritten_in None key was slot q lead = lead
-rewritten_in (Some t) key was slot q lead = rewritten t key was slot q lead
+abbrev pub lead_after_row_in : Option TableRow → List Value → Option (List Value) → Option (List Value) → Key → Option (List Value) → Option (List Value)
+lead_after_row_in None key was slot q lead = lead
+lead_after_row_in (Some t) key was slot q lead = lead_after_row t key was slot q lead
 
 -- after a write over these rows
-abbrev pub after_write : List TableRow → RowsById → Write → Key → Option (List Value) → Option (List Value)
-after_write ts by w q lead = rewritten_in (table_of ts w.table) w.key (entries.find row_cmp w.key (rows_by by w.table)) w.row q lead
+abbrev pub lead_after_write : List TableRow → RowsById → Write → Key → Option (List Value) → Option (List Value)
+lead_after_write ts by w q lead = lead_after_row_in (table_of ts w.table) w.key (entries.find row_cmp w.key (rows_by by w.table)) w.row q lead
 
 -- each unique value of a row leads to it
 abbrev pub LeadsToRows : TableRow → Rows → UniqueIndex → Type 0

@@ -3,8 +3,8 @@ ghost use Rattle.std.specs.Prelude.{◌≡◌, ◌+◌, ◌<◌, ◌≤◌, ◌^
 ghost use Rattle.redo_spec.specs.Tables.{assembled};
 ghost use Rattle.row_apply.specs.Soundness.{AreSound};
 ghost use Rattle.primary.specs.Running.{AreKept};
-ghost use Rattle.primary.specs.Progress.{is_going, recs_of, OnGoing, RowsAreSound, after_record, end_of};
-ghost use Rattle.primary.specs.Starts.{IsStart, begun, shown};
+ghost use Rattle.primary.specs.Progress.{is_going, recs_of, OnGoing, RowsAreSound, progress_after_record, end_of};
+ghost use Rattle.primary.specs.Starts.{IsStart, first_progress, folded_of};
 ghost use Rattle.primary.specs.declared.fault.TakeFault.TheVariants.{Unsound};
 
 use crate::fault::TakeFault;
@@ -48,7 +48,7 @@ impl Evaluator {
     /// A fold that begins so: no record is taken yet. Where there is no memory, the start is dropped.
     pub fn new(alloc: Global, start: Plain) -> Result<Evaluator, NoMemory>
         requires fits { IsStart start [] }
-        ensures begun { IfOk result (λ fold. fold ≡ begun start) }
+        ensures begun { IfOk result (λ fold. fold ≡ first_progress start) }
     {
         let Plain {
             law,
@@ -86,7 +86,7 @@ impl Evaluator {
     #[tactic(auto, using(crate::proofs::StepLaws::recs_after))]
     pub fn take(&mut self, head: &Header, rec: RedoRec, skips: &Skips) -> Result<bool, TakeFault>
         requires few { recs_of self.old + 1 < 2 ^ 64 }
-        ensures taken { OnOk result (self.new ≡ after_record skips.now (head.now, rec) self.old) }
+        ensures taken { OnOk result (self.new ≡ progress_after_record skips.now (head.now, rec) self.old) }
         ensures going { IfOk result (λ going. going ≡ is_going self.new) }
         ensures records { OnOk result (recs_of self.new ≤ recs_of self.old + 1) }
         ensures sound { OnOk result (RowsAreSound (head.now, rec) self.old) }
@@ -112,8 +112,8 @@ impl Evaluator {
 
     /// The fold, where the redo's records end so. Another fold may begin with its rows.
     pub fn finish(self, stop: Stop) -> Folded
-        ensures shown { shown result ≡ end_of stop self }
-        ensures sound { AreSound (shown result).tables }
+        ensures shown { folded_of result ≡ end_of stop self }
+        ensures sound { AreSound (folded_of result).tables }
         ensures dictionary { OnGoing self (λ a. result.dict ≡ a.standing.dictionary) }
         ensures whole { OnGoing self (λ a. result.whole ≡ a.standing.dictionary.finished) }
         ensures waiting { OnGoing self (λ a. result.whole ≡ false → result.tables ≡ a.waiting) }

@@ -3,7 +3,7 @@
 //! They are moved out of the records that bring them, and never copied. An UNDO takes the latest one back, and a COMMIT or a
 //! ROLLBACK takes all of its transaction out.
 ghost use Rattle.std.specs.Prelude.{◌≡◌, ◌∷◌, ◌++◌, [], IfOk, OnOk, length, take, ◌-◌};
-ghost use Rattle.primary.specs.Progress.{live_after, commit_of, opened, closed, rechanged, changes_of, xid_cmp};
+ghost use Rattle.primary.specs.Progress.{live_after, commit_of, with_opened, without_closed, with_changes, changes_of, xid_cmp};
 
 use redo_vec::{Change, Vector};
 use rl_value::{NoMemory, Pos, Xid};
@@ -85,7 +85,7 @@ impl LiveChanges {
     }
 
     fn start(&mut self, xid: Xid) -> Result<(), NoMemory>
-        ensures opened { OnOk result (self.new ≡ opened xid self.old) }
+        ensures opened { OnOk result (self.new ≡ with_opened xid self.old) }
     {
         match self.by_xid.insert(xid, Survivors::new(self.alloc)) {
             Ok(_) => Ok(()),
@@ -94,7 +94,7 @@ impl LiveChanges {
     }
 
     fn change(&mut self, at: Pos, change: Change) -> Result<(), NoMemory>
-        ensures changed { OnOk result (self.new ≡ rechanged change.xid (λ ps. ps ++ (at, change) ∷ []) self.old (changes_of change.xid self.old)) }
+        ensures changed { OnOk result (self.new ≡ with_changes change.xid (λ ps. ps ++ (at, change) ∷ []) self.old (changes_of change.xid self.old)) }
     {
         match self.by_xid.get_mut(&change.xid) {
             None => Ok(()),
@@ -103,7 +103,7 @@ impl LiveChanges {
     }
 
     fn undo(&mut self, xid: Xid)
-        ensures undone { self.new ≡ rechanged xid (λ ps. take (length ps - 1) ps) self.old (changes_of xid self.old) }
+        ensures undone { self.new ≡ with_changes xid (λ ps. take (length ps - 1) ps) self.old (changes_of xid self.old) }
     {
         match self.by_xid.get_mut(&xid) {
             None => {}
@@ -112,7 +112,7 @@ impl LiveChanges {
     }
 
     fn end(&mut self, xid: Xid) -> Option<Survivors>
-        ensures closed { self.new ≡ closed xid self.old }
+        ensures closed { self.new ≡ without_closed xid self.old }
         ensures was { result ≡ changes_of xid self.old }
     {
         self.by_xid.remove(&xid)

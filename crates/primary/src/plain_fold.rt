@@ -2,7 +2,7 @@
 ghost use Rattle.std.specs.Prelude.{◌≡◌, ◌+◌, ◌<◌, ◌^◌, length, IfOk};
 ghost use Rattle.rl_value.specs.declared.verdict.Stop.TheVariants.{Drained};
 ghost use Rattle.row_apply.specs.Soundness.{AreSound};
-ghost use Rattle.primary.specs.Starts.{IsStart, fold_from, shown};
+ghost use Rattle.primary.specs.Starts.{IsStart, fold_from, folded_of};
 
 use crate::evaluator::Evaluator;
 use crate::fault::TakeFault;
@@ -23,8 +23,8 @@ pub fn fold_plain(
 ) -> Result<Folded, NoMemory>
     requires fits { IsStart start recs.now }
     requires few { start.law.rec + length recs.now < 2 ^ 64 }
-    ensures folded { IfOk result (λ folded. shown folded ≡ fold_from start skips.now recs.now Drained) }
-    ensures sound { IfOk result (λ folded. AreSound (shown folded).tables) }
+    ensures folded { IfOk result (λ folded. folded_of folded ≡ fold_from start skips.now recs.now Drained) }
+    ensures sound { IfOk result (λ folded. AreSound (folded_of folded).tables) }
 {
     let mut fold = Evaluator::new(alloc, start)?;
     for (head, rec) in recs {

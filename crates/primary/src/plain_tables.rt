@@ -4,7 +4,7 @@ ghost use Rattle.std.specs.Option.{option_copied};
 ghost use Rattle.std.specs.FinMap.Entries.{find};
 ghost use Rattle.rl_value.specs.Order.{row_cmp};
 ghost use Rattle.redo_spec.specs.Tables.{rows_by};
-ghost use Rattle.primary.specs.ById.{with_row, without_row, put_beside, take_from, table_in, written_beside};
+ghost use Rattle.primary.specs.ById.{with_row, without_row, put_beside, take_from, table_in, rows_after_write};
 
 use crate::plain_rows::PlainRows;
 use rl_value::{NoMemory, Row};
@@ -82,7 +82,7 @@ impl PlainTables {
 
     /// Puts the written row, or takes it away.
     pub(crate) fn write(&mut self, write: Write) -> Result<(), NoMemory>
-        ensures written { OnOk result (self.new ≡ written_beside self.old write write.row) }
+        ensures written { OnOk result (self.new ≡ rows_after_write self.old write write.row) }
     {
         let Write { table, key, row } = write;
         match row {

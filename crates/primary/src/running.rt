@@ -43,8 +43,8 @@ impl Running {
     ghost use Rattle.redo_spec.specs.Fold.{effects};
     ghost use Rattle.row_apply.specs.Overlaid.{overlaid, are_of};
     ghost use Rattle.row_apply.specs.Soundness.{AreSound};
-    ghost use Rattle.primary.specs.Progress.{committed, kept_of, with_commit, tables_shown, RowsAreSound, after_record, Going};
-    ghost use Rattle.primary.specs.Running.{AreAccepted, TellsMiss, ahead_of, progress_of, tables_of, IsKept, IsRunning, MayCommit};
+    ghost use Rattle.primary.specs.Progress.{progress_after_commit, kept_of, progress_with_commit, tables_shown, RowsAreSound, progress_after_record, Going};
+    ghost use Rattle.primary.specs.Running.{AreAccepted, TellsMiss, fold_state_of, progress_of, tables_of, KeepsRows, IsRunning, MayCommit};
     ghost use Rattle.primary.specs.Unique.{IsIndexed};
     ghost use Rattle.primary.specs.declared.fault.TakeFault.TheVariants.{Unsound};
 
@@ -78,10 +78,10 @@ impl Running {
         requires whole { self.old.whole ≡ true }
         requires accepted { AreAccepted self.old.law.dictionary.tables changes }
         requires sound { AreSound (assembled self.old.law.dictionary.tables self.old.tables) }
-        requires kept { IsKept self.old }
-        ensures taken { IfOk result (λ end. progress_of end self.new ≡ committed skips.now scn changes (ahead_of self.old)) }
+        requires kept { KeepsRows self.old }
+        ensures taken { IfOk result (λ end. progress_of end self.new ≡ progress_after_commit skips.now scn changes (fold_state_of self.old)) }
         ensures sound { IfOk result (λ end. AreSound (assembled self.new.law.dictionary.tables self.new.tables)) }
-        ensures kept { IfOk result (λ end. IsKept self.new) }
+        ensures kept { IfOk result (λ end. KeepsRows self.new) }
         ensures law { IfOk result (λ end. self.new.law ≡ self.old.law) }
         ensures live { IfOk result (λ end. self.new.live ≡ self.old.live) }
         ensures rec { IfOk result (λ end. self.new.rec ≡ self.old.rec) }
@@ -131,10 +131,10 @@ impl Running {
     ) -> Result<Option<Verdict>, NoMemory>
         requires may { IfSome commit (λ ps. MayCommit self.old ps) }
         requires sound { AreSound (tables_of self.old) }
-        requires kept { self.old.whole ≡ true → IsKept self.old }
-        ensures taken { IfOk result (λ end. progress_of end self.new ≡ with_commit skips.now scn commit (ahead_of self.old)) }
+        requires kept { self.old.whole ≡ true → KeepsRows self.old }
+        ensures taken { IfOk result (λ end. progress_of end self.new ≡ progress_with_commit skips.now scn commit (fold_state_of self.old)) }
         ensures sound { IfOk result (λ end. AreSound (tables_of self.new)) }
-        ensures kept { IfOk result (λ end. self.new.whole ≡ true → IsKept self.new) }
+        ensures kept { IfOk result (λ end. self.new.whole ≡ true → KeepsRows self.new) }
         ensures law { IfOk result (λ end. self.new.law ≡ self.old.law) }
         ensures live { IfOk result (λ end. self.new.live ≡ self.old.live) }
         ensures rec { IfOk result (λ end. self.new.rec ≡ self.old.rec) }
@@ -150,10 +150,10 @@ impl Running {
     fn enter(&mut self) -> Result<(), TakeFault>
         requires still { self.old.whole ≡ true → self.old.law.dictionary.finished ≡ true }
         requires sound { self.old.whole ≡ true → AreSound (assembled self.old.law.dictionary.tables self.old.tables) }
-        requires kept { self.old.whole ≡ true → IsKept self.old }
+        requires kept { self.old.whole ≡ true → KeepsRows self.old }
         ensures only { OnOk result (self.new ≡ record self.old { whole = self.old.law.dictionary.finished; index = self.new.index; count = self.new.count }) }
         ensures sound { OnOk result (AreSound (tables_of self.new)) }
-        ensures kept { OnOk result (self.new.whole ≡ true → IsKept self.new) }
+        ensures kept { OnOk result (self.new.whole ≡ true → KeepsRows self.new) }
         ensures waited { result ≡ Err Unsound → self.old.whole ≡ false }
         ensures unsound { result ≡ Err Unsound → AreSound (tables_shown self.old.law.dictionary.finished self.old.law.dictionary.tables self.old.tables) → ⊥ }
     {
@@ -178,9 +178,9 @@ impl Running {
         requires room { self.old.law.rec + 1 < 2 ^ 64 }
         ensures running { IfOk result (λ end. end ≡ None → IsRunning self.new) }
         ensures sound { IfOk result (λ end. AreSound (tables_of self.new)) }
-        ensures taken { IfOk result (λ end. progress_of end self.new ≡ after_record skips.now (head.now, rec) (Going (ahead_of self.old))) }
-        ensures rows { OnOk result (RowsAreSound (head.now, rec) (Going (ahead_of self.old))) }
-        ensures unsound { result ≡ Err Unsound → RowsAreSound (head.now, rec) (Going (ahead_of self.old)) → ⊥ }
+        ensures taken { IfOk result (λ end. progress_of end self.new ≡ progress_after_record skips.now (head.now, rec) (Going (fold_state_of self.old))) }
+        ensures rows { OnOk result (RowsAreSound (head.now, rec) (Going (fold_state_of self.old))) }
+        ensures unsound { result ≡ Err Unsound → RowsAreSound (head.now, rec) (Going (fold_state_of self.old)) → ⊥ }
     {
         match self.law.admit(head, &rec) {
             Ok(()) => {}

@@ -7,7 +7,7 @@ ghost use Rattle.std.specs.BTreeMap as tree;
 ghost use Rattle.std.specs.Option.{option_copied};
 ghost use Rattle.rl_value.specs.Order.{key_cmp};
 ghost use Rattle.rl_value.specs.declared.key.Key.{Key};
-ghost use Rattle.primary.specs.Unique.{is_key, leads, entered, left};
+ghost use Rattle.primary.specs.Unique.{is_value_of, is_lead, lead_with, lead_without};
 
 use crate::unique_values::unique_value;
 use redo_vec::TableRow;
@@ -26,7 +26,7 @@ pub struct UniqueIndex {
 impl UniqueIndex {
     ghost use Rattle.redo_spec.specs.Tables.{Rows};
     ghost use Rattle.redo_spec.specs.Dictionary.{uniques_of};
-    ghost use Rattle.primary.specs.Unique.{lead_of, has_unique, slot_has, rewritten, LeadsToRows};
+    ghost use Rattle.primary.specs.Unique.{lead_of, has_unique, slot_has_unique, lead_after_row, LeadsToRows};
     ghost use Rattle.primary.specs.Checked.{value_leads, leads_from};
     ghost use Rattle.row_apply.specs.Soundness.{AreSoundRows};
 
@@ -75,7 +75,7 @@ impl UniqueIndex {
 
     /// From now on each unique value of the row leads to this primary key.
     pub fn enter(&mut self, table: &TableRow, key: &Row, row: &Row) -> Result<(), NoMemory>
-        ensures entered { OnOk result ((q : Key) → lead_of self.new q ≡ entered (has_unique table.now row.now q) key.now (lead_of self.old q)) }
+        ensures entered { OnOk result ((q : Key) → lead_of self.new q ≡ lead_with (has_unique table.now row.now q) key.now (lead_of self.old q)) }
     {
         let mut rest = unique_keys(table);
         let mut number: u8 = 1;
@@ -90,7 +90,7 @@ impl UniqueIndex {
 
     /// No unique value of the row leads to this primary key any more.
     pub fn leave(&mut self, table: &TableRow, key: &Row, row: &Row) -> Result<(), NoMemory>
-        ensures left { OnOk result ((q : Key) → lead_of self.new q ≡ left (has_unique table.now row.now q) key.now (lead_of self.old q)) }
+        ensures left { OnOk result ((q : Key) → lead_of self.new q ≡ lead_without (has_unique table.now row.now q) key.now (lead_of self.old q)) }
     {
         let mut rest = unique_keys(table);
         let mut number: u8 = 1;
@@ -104,7 +104,7 @@ impl UniqueIndex {
     }
 
     fn leave_slot(&mut self, table: &TableRow, key: &Row, was: Option<&Row>) -> Result<(), NoMemory>
-        ensures left { OnOk result ((q : Key) → lead_of self.new q ≡ left (slot_has table.now (option_copied was.entry) q) key.now (lead_of self.old q)) }
+        ensures left { OnOk result ((q : Key) → lead_of self.new q ≡ lead_without (slot_has_unique table.now (option_copied was.entry) q) key.now (lead_of self.old q)) }
     {
         match was {
             None => Ok(()),
@@ -118,7 +118,7 @@ impl UniqueIndex {
         key: &Row,
         slot: &Option<Row>,
     ) -> Result<(), NoMemory>
-        ensures entered { OnOk result ((q : Key) → lead_of self.new q ≡ entered (slot_has table.now slot.now q) key.now (lead_of self.old q)) }
+        ensures entered { OnOk result ((q : Key) → lead_of self.new q ≡ lead_with (slot_has_unique table.now slot.now q) key.now (lead_of self.old q)) }
     {
         match slot {
             None => Ok(()),
@@ -134,7 +134,7 @@ impl UniqueIndex {
         was: Option<&Row>,
         slot: &Option<Row>,
     ) -> Result<(), NoMemory>
-        ensures rewritten { OnOk result ((q : Key) → lead_of self.new q ≡ rewritten table.now key.now (option_copied was.entry) slot.now q (lead_of self.old q)) }
+        ensures rewritten { OnOk result ((q : Key) → lead_of self.new q ≡ lead_after_row table.now key.now (option_copied was.entry) slot.now q (lead_of self.old q)) }
     {
         self.leave_slot(table, key, was)?;
         self.enter_slot(table, key, slot)
@@ -147,7 +147,7 @@ fn enter_value(
     unique: Option<Key>,
     key: &Row,
 ) -> Result<(), NoMemory>
-    ensures entered { OnOk result ((q : Key) → tree.get key_cmp owners.new q ≡ entered (is_key q unique) key.now (tree.get key_cmp owners.old q)) }
+    ensures entered { OnOk result ((q : Key) → tree.get key_cmp owners.new q ≡ lead_with (is_value_of q unique) key.now (tree.get key_cmp owners.old q)) }
 {
     let Some(unique) = unique else {
         return Ok(());
@@ -160,7 +160,7 @@ fn enter_value(
 }
 
 fn leads_to(found: Option<&Row>, key: &Row) -> bool
-    ensures exact { result ≡ leads key.now (option_copied found.entry) }
+    ensures exact { result ≡ is_lead key.now (option_copied found.entry) }
 {
     match found {
         None => false,
@@ -170,7 +170,7 @@ fn leads_to(found: Option<&Row>, key: &Row) -> bool
 
 // The value does not lead to this primary key.
 fn leave_value(owners: &mut BTreeMap<Key, Row>, unique: Option<Key>, key: &Row)
-    ensures left { (q : Key) → tree.get key_cmp owners.new q ≡ left (is_key q unique) key.now (tree.get key_cmp owners.old q) }
+    ensures left { (q : Key) → tree.get key_cmp owners.new q ≡ lead_without (is_value_of q unique) key.now (tree.get key_cmp owners.old q) }
 {
     let Some(unique) = unique else {
         return;

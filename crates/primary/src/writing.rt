@@ -9,8 +9,8 @@ ghost use Rattle.redo_spec.specs.Fold.{live_row_limit};
 ghost use Rattle.rl_value.specs.declared.key.Key.{Key};
 ghost use Rattle.row_apply.specs.Overlaid.{overlaid, are_of, writes_rise};
 ghost use Rattle.row_apply.specs.Soundness.{AreSound};
-ghost use Rattle.primary.specs.ById.{written_all, is_added, is_removed, added, removed};
-ghost use Rattle.primary.specs.Unique.{lead_of, after_write, IsIndexed};
+ghost use Rattle.primary.specs.ById.{rows_after_writes, is_added, is_removed, added_count, removed_count};
+ghost use Rattle.primary.specs.Unique.{lead_of, lead_after_write, IsIndexed};
 
 use crate::plain_tables::PlainTables;
 use crate::unique_index::UniqueIndex;
@@ -68,7 +68,7 @@ fn one_removed(tables: &PlainTables, write: &Write) -> u64
 
 // So many rows, and those that the writes put where none is.
 fn count_added(tables: &PlainTables, count: u64, writes: &[Write]) -> Result<u64, NoMemory>
-    ensures sum { IfOk result (λ more. more ≡ count + added tables.now writes.now) }
+    ensures sum { IfOk result (λ more. more ≡ count + added_count tables.now writes.now) }
 {
     let mut more = count;
     let mut rest = writes;
@@ -80,7 +80,7 @@ fn count_added(tables: &PlainTables, count: u64, writes: &[Write]) -> Result<u64
 }
 
 fn count_removed(tables: &PlainTables, writes: &[Write]) -> Result<u64, NoMemory>
-    ensures exact { IfOk result (λ fewer. fewer ≡ removed tables.now writes.now) }
+    ensures exact { IfOk result (λ fewer. fewer ≡ removed_count tables.now writes.now) }
 {
     let mut fewer = 0;
     let mut rest = writes;
@@ -117,7 +117,7 @@ fn index_write(
     index: &mut UniqueIndex,
     write: &Write,
 ) -> Result<(), NoMemory>
-    ensures indexed { OnOk result ((q : Key) → lead_of index.new q ≡ after_write dict.now.tables tables.now write.now q (lead_of index.old q)) }
+    ensures indexed { OnOk result ((q : Key) → lead_of index.new q ≡ lead_after_write dict.now.tables tables.now write.now q (lead_of index.old q)) }
 {
     match dict.def(write.table) {
         None => Ok(()),
@@ -134,9 +134,9 @@ fn write_all(
     index: &mut UniqueIndex,
     writes: Writes,
 ) -> Result<(), NoMemory>
-    requires sound { AreSound (assembled dict.now.tables (written_all tables.old writes)) }
+    requires sound { AreSound (assembled dict.now.tables (rows_after_writes tables.old writes)) }
     requires indexed { IsIndexed dict.now.tables tables.old index.old }
-    ensures written { OnOk result (tables.new ≡ written_all tables.old writes) }
+    ensures written { OnOk result (tables.new ≡ rows_after_writes tables.old writes) }
     ensures indexed { OnOk result (IsIndexed dict.now.tables tables.new index.new) }
 {
     for write in writes.into_items() {

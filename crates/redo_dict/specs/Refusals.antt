@@ -17,9 +17,9 @@ IsTableRefusal tables.Limit reason = reason ≡ Some laws.Limit
 IsTableRefusal tables.Memory reason = reason ≡ None
 
 -- a table is taken where there is no reason against it, and comes back where it is refused
-abbrev pub Takes : {T : Type 0} → Option LawFault → TableRow → Result T (DictFault × TableRow) → Type 0
-Takes reason row (Ok done) = reason ≡ None
-Takes reason row (Err (fault, back)) = IsTableRefusal fault reason × (back ≡ row)
+abbrev pub TakesTable : {T : Type 0} → Option LawFault → TableRow → Result T (DictFault × TableRow) → Type 0
+TakesTable reason row (Ok done) = reason ≡ None
+TakesTable reason row (Err (fault, back)) = IsTableRefusal fault reason × (back ≡ row)
 
 -- the reason of a refused change
 abbrev pub change_reason : ChangeFault → LawFault

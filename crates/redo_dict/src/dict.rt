@@ -7,7 +7,7 @@ ghost use Rattle.std.specs.Option.{option_map, option_copied};
 ghost use Rattle.redo_spec.specs.Dictionary.{Dictionary, no_dictionary, dictionary_after, table_fault, table_of, id_of, ids_rise, with_table, has_bad_keys};
 ghost use Rattle.redo_spec.specs.ChangeForm.{change_fault, is_row_of};
 ghost use Rattle.redo_vec.specs.declared.vector.Vector.TheVariants.{Table, DictEnd};
-ghost use Rattle.redo_dict.specs.Refusals.{Takes, Accepts};
+ghost use Rattle.redo_dict.specs.Refusals.{TakesTable, Accepts};
 
 use crate::change_form::check_in;
 use crate::fault::{ChangeFault, DictFault};
@@ -53,7 +53,7 @@ impl Dict {
     /// Takes one more table. Where it is refused, it comes back and the dictionary stays as it was.
     pub fn add(&mut self, row: TableRow) -> Result<(), (DictFault, TableRow)>
         ensures added { OnOk result (self.new ≡ dictionary_after self.old (Table row)) }
-        ensures exact { Takes (table_fault self.old.tables row) row result }
+        ensures exact { TakesTable (table_fault self.old.tables row) row result }
         ensures unchanged { OnErr result (self.new ≡ self.old) }
     {
         if let Some(fault) = table_refusal(self.tables.as_slice(), &row) {

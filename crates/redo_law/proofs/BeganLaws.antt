@@ -10,7 +10,7 @@ use Rattle.redo_vec.specs.declared.vector.Vector.{Vector}
 use Rattle.redo_vec.specs.declared.vector.Vector.TheVariants.{Start, Change as OfChange, Undo, Commit, Rollback, Table, DictEnd}
 use Rattle.redo_spec.specs.ConflictKeys.{conflict_keys}
 use Rattle.redo_spec.specs.History.{same_xid}
-use Rattle.redo_spec.specs.Standing.{OpenTxn, with_open, closed, touching, giving_back, active_after}
+use Rattle.redo_spec.specs.Standing.{OpenTxn, with_open, without_open, open_txn_after_change, open_txn_after_undo, active_after}
 use Rattle.redo_law.specs.Held.{pos_cmp}
 use Rattle.redo_law.specs.OpenTable.{BeganBefore}
 use Rattle.redo_law.specs.Seen.{BeganBy}
@@ -83,9 +83,9 @@ began_changed : (f : OpenTxn → OpenTxn) → ((t : OpenTxn) → (f t).start ≡
 began_changed f keeps p x [] all = tt
 began_changed f keeps p x (t ∷ ts) all = (ap (λ s. pos_cmp s p) (start_kept f keeps (same_xid t.xid x) t) ∙ all.0, began_changed f keeps p x ts all.1)
 
-began_closed : (p : Pos) (x : Xid) (ts : List OpenTxn) → BeganBefore p ts → BeganBefore p (closed x ts)
+began_closed : (p : Pos) (x : Xid) (ts : List OpenTxn) → BeganBefore p ts → BeganBefore p (without_open x ts)
 began_closed p x [] all = tt
-began_closed p x (t ∷ ts) all = elim (same_xid t.xid x) as (λ b. BeganBefore p (cond (not b) (t ∷ closed x ts) (closed x ts))) [
+began_closed p x (t ∷ ts) all = elim (same_xid t.xid x) as (λ b. BeganBefore p (cond (not b) (t ∷ without_open x ts) (without_open x ts))) [
   | true ↦ began_closed p x ts all.1
   | false ↦ (all.0, began_closed p x ts all.1)
 ]
@@ -93,8 +93,8 @@ began_closed p x (t ∷ ts) all = elim (same_xid t.xid x) as (λ b. BeganBefore 
 -- also after one more vector
 pub began_next : (tables : List TableRow) (rec vec : ℕ) (v : Vector) (ts : List OpenTxn) → BeganBefore (at rec vec) ts → BeganBefore (at rec (vec + 1)) (active_after tables (at rec vec) v ts)
 began_next tables rec vec (Start x) ts all = began_push (at rec (vec + 1)) ts _ (began_later rec vec ts all) (here_later rec vec)
-began_next tables rec vec (OfChange c) ts all = began_changed (touching (conflict_keys tables c)) (λ t. refl) (at rec (vec + 1)) c.xid ts (began_later rec vec ts all)
-began_next tables rec vec (Undo x) ts all = began_changed giving_back (λ t. refl) (at rec (vec + 1)) x ts (began_later rec vec ts all)
+began_next tables rec vec (OfChange c) ts all = began_changed (open_txn_after_change (conflict_keys tables c)) (λ t. refl) (at rec (vec + 1)) c.xid ts (began_later rec vec ts all)
+began_next tables rec vec (Undo x) ts all = began_changed open_txn_after_undo (λ t. refl) (at rec (vec + 1)) x ts (began_later rec vec ts all)
 began_next tables rec vec (Commit x) ts all = began_closed (at rec (vec + 1)) x ts (began_later rec vec ts all)
 began_next tables rec vec (Rollback x) ts all = began_closed (at rec (vec + 1)) x ts (began_later rec vec ts all)
 began_next tables rec vec (Table t) ts all = began_later rec vec ts all

@@ -4,12 +4,12 @@ use Rattle.std.proofs.lemmas.Bool.Decides.{nat_tests}
 use Rattle.std.specs.Option.{option_map, option_or}
 use Rattle.rl_value.specs.declared.value.Value.{Value}
 use Rattle.redo_vec.specs.Forms.{are_keys, is_key_columns, rises}
-use Rattle.redo_spec.specs.ConflictKeys.{cell_at}
+use Rattle.redo_spec.specs.ConflictKeys.{cell_of}
 
-pub cell_behind : (first second : List (ℕ × Value)) (column : ℕ) → cell_at (first ++ second) column ≡ option_or (cell_at first column) (cell_at second column)
+pub cell_behind : (first second : List (ℕ × Value)) (column : ℕ) → cell_of (first ++ second) column ≡ option_or (cell_of first column) (cell_of second column)
 cell_behind [] second column = refl
 cell_behind (c ∷ cs) second column =
-    elim (c.0 == column) as (λ b. cond b (Some c.1) (cell_at (cs ++ second) column) ≡ option_or (cond b (Some c.1) (cell_at cs column)) (cell_at second column)) [
+    elim (c.0 == column) as (λ b. cond b (Some c.1) (cell_of (cs ++ second) column) ≡ option_or (cond b (Some c.1) (cell_of cs column)) (cell_of second column)) [
       | true ↦ refl
       | false ↦ cell_behind cs second column
     ]

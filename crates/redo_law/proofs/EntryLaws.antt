@@ -12,7 +12,7 @@ use Rattle.std.specs.Option.{option_map, option_or}
 use Rattle.rl_value.specs.declared.pos.Pos.{Pos}
 use Rattle.rl_value.specs.declared.xid.Xid.{Xid}
 use Rattle.redo_spec.specs.History.{same_xid}
-use Rattle.redo_spec.specs.Standing.{OpenTxn, with_open, closed}
+use Rattle.redo_spec.specs.Standing.{OpenTxn, with_open, without_open}
 use Rattle.redo_law.specs.declared.survivors.Open.{Open}
 use Rattle.redo_law.specs.Calls.{open_of}
 use Rattle.redo_law.specs.Held.{pos_cmp, xid_cmp, Apart}
@@ -83,11 +83,11 @@ set_changed f x (g ∷ es) t w sorted apart e is =
           ∙ ap (λ us. opened g ∷ us) (set_changed f x es t w (sorted_tail pos_cmp g.0 (keys_of es) sorted) apart.1 h is)
     ] refl e
 
-pub removed_closed : (x : Xid) (es : List (Pos × Open)) (t : OpenTxn) → Sorted es → Apart (opened_all es) → open_of x (opened_all es) ≡ Some t → opened_all (remove_entry (is_at (pos_cmp t.start)) es) ≡ closed x (opened_all es)
+pub removed_closed : (x : Xid) (es : List (Pos × Open)) (t : OpenTxn) → Sorted es → Apart (opened_all es) → open_of x (opened_all es) ≡ Some t → opened_all (remove_entry (is_at (pos_cmp t.start)) es) ≡ without_open x (opened_all es)
 removed_closed x [] t sorted apart e = refl
 removed_closed x (g ∷ es) t sorted apart e =
     elim (same_xid g.1.xid x) as (λ b. same_xid g.1.xid x ≡ b → cond b (Some (opened g)) (open_of x (opened_all es)) ≡ Some t →
-    opened_all (cond (is_at (pos_cmp t.start) g.0) es (g ∷ remove_entry (is_at (pos_cmp t.start)) es)) ≡ cond (not b) (opened g ∷ closed x (opened_all es)) (closed x (opened_all es))) [
+    opened_all (cond (is_at (pos_cmp t.start) g.0) es (g ∷ remove_entry (is_at (pos_cmp t.start)) es)) ≡ cond (not b) (opened g ∷ without_open x (opened_all es)) (without_open x (opened_all es))) [
       | true ↦ λ own h.
           let start : g.0 ≡ t.start = ap (λ u. u.start) (some_is (opened g) t h) in
           let none = ap (λ i. open_of i (opened_all es)) (sym (xid_is g.1.xid x own)) ∙ apart.0 in
@@ -133,17 +133,17 @@ count_changed f x (u ∷ us) t apart e =
           omega (arith, a, b, rest)
     ] refl e
 
-pub count_closed : (x : Xid) (ts : List OpenTxn) (t : OpenTxn) → Apart ts → open_of x ts ≡ Some t → change_count (closed x ts) + length t.keys ≡ change_count ts
+pub count_closed : (x : Xid) (ts : List OpenTxn) (t : OpenTxn) → Apart ts → open_of x ts ≡ Some t → change_count (without_open x ts) + length t.keys ≡ change_count ts
 count_closed x [] t apart e = absurd (cc)
 count_closed x (u ∷ us) t apart e =
-    elim (same_xid u.xid x) as (λ b. same_xid u.xid x ≡ b → cond b (Some u) (open_of x us) ≡ Some t → change_count (cond (not b) (u ∷ closed x us) (closed x us)) + length t.keys ≡ change_count (u ∷ us)) [
+    elim (same_xid u.xid x) as (λ b. same_xid u.xid x ≡ b → cond b (Some u) (open_of x us) ≡ Some t → change_count (cond (not b) (u ∷ without_open x us) (without_open x us)) + length t.keys ≡ change_count (u ∷ us)) [
       | true ↦ λ own h.
           let here : u ≡ t = some_is u t h in
-          let a : change_count (closed x us) ≡ change_count us = ap change_count (closed_none x us (none_later x u.xid us own apart.0)) in
+          let a : change_count (without_open x us) ≡ change_count us = ap change_count (closed_none x us (none_later x u.xid us own apart.0)) in
           let b : change_count (u ∷ us) ≡ length t.keys + change_count us = ap (λ v. change_count (v ∷ us)) here ∙ count_cons t us in
           omega (arith, a, b)
       | false ↦ λ own h.
-          let a = count_cons u (closed x us) in
+          let a = count_cons u (without_open x us) in
           let b = count_cons u us in
           let rest = count_closed x us t apart.1 h in
           omega (arith, a, b, rest)
@@ -180,10 +180,10 @@ starts_changed f keeps same x ts y =
       | false ↦ λ own. sym (ap (option_map (λ u. u.start)) (open_beside_changed f keeps x y own ts))
     ] refl
 
-pub starts_closed : (x : Xid) (ts : List OpenTxn) (y : Xid) → cond (is_at (xid_cmp x) y) None (starts ts y) ≡ starts (closed x ts) y
+pub starts_closed : (x : Xid) (ts : List OpenTxn) (y : Xid) → cond (is_at (xid_cmp x) y) None (starts ts y) ≡ starts (without_open x ts) y
 starts_closed x ts y =
     ap (λ b. cond b None (starts ts y)) (xid_at x y) ∙
-    elim (same_xid x y) as (λ b. same_xid x y ≡ b → cond b None (starts ts y) ≡ starts (closed x ts) y) [
-      | true ↦ λ own. sym (ap (option_map (λ u. u.start)) (open_closed y ts)) ∙ ap (λ z. starts (closed z ts) y) (sym (xid_is x y own))
+    elim (same_xid x y) as (λ b. same_xid x y ≡ b → cond b None (starts ts y) ≡ starts (without_open x ts) y) [
+      | true ↦ λ own. sym (ap (option_map (λ u. u.start)) (open_closed y ts)) ∙ ap (λ z. starts (without_open z ts) y) (sym (xid_is x y own))
       | false ↦ λ own. sym (ap (option_map (λ u. u.start)) (open_beside_closed x y own ts))
     ] refl

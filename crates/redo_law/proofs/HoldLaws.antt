@@ -6,7 +6,7 @@ use Rattle.std.specs.Option.{option_map, option_or}
 use Rattle.rl_value.specs.declared.key.Key.{Key}
 use Rattle.rl_value.specs.declared.xid.Xid.{Xid}
 use Rattle.redo_spec.specs.History.{same_xid}
-use Rattle.redo_spec.specs.Standing.{OpenTxn, with_open, closed, touching, giving_back}
+use Rattle.redo_spec.specs.Standing.{OpenTxn, with_open, without_open, open_txn_after_change, open_txn_after_undo}
 use Rattle.redo_law.specs.declared.hold.Hold.{Hold}
 use Rattle.redo_law.specs.Calls.{open_of}
 use Rattle.redo_law.specs.Held.{Holds, has_key, first_from, change_in, own_change, is_hold}
@@ -104,12 +104,12 @@ touch_other x y n (Some h) b apart = refl
 
 pub holds_touch : (holds after : Key → Option Hold) (x : Xid) (ks : List Key) (ts : List OpenTxn) (t : OpenTxn) → open_of x ts ≡ Some t → Holds holds ts → Free holds x ks →
     ((k : Key) → after k ≡ option_or (holds k) (cond (has_key k ks) (Some (record { holder = x; change = length t.keys })) None)) →
-    Holds after (with_open (touching ks) x ts)
+    Holds after (with_open (open_txn_after_change ks) x ts)
 holds_touch holds after x ks ts t found h free is k y =
-    elim (same_xid x y) as (λ b. same_xid x y ≡ b → change_in k (open_of y (with_open (touching ks) x ts)) ≡ own_change y (after k)) [
+    elim (same_xid x y) as (λ b. same_xid x y ≡ b → change_in k (open_of y (with_open (open_txn_after_change ks) x ts)) ≡ own_change y (after k)) [
       | true ↦ λ same.
-          ap (λ z. change_in k (open_of z (with_open (touching ks) x ts))) (sym (xid_is x y same))
-          ∙ ap (change_in k) (open_changed (touching ks) (λ u. refl) x ts ∙ ap (option_map (touching ks)) found)
+          ap (λ z. change_in k (open_of z (with_open (open_txn_after_change ks) x ts))) (sym (xid_is x y same))
+          ∙ ap (change_in k) (open_changed (open_txn_after_change ks) (λ u. refl) x ts ∙ ap (option_map (open_txn_after_change ks)) found)
           ∙ first_append k 0 t.keys ks
           ∙ ap (λ m. option_or (first_from k 0 t.keys) (number_if (has_key k ks) m)) (let e : 0 + length t.keys ≡ length t.keys = omega arith in e)
           ∙ ap (λ o. option_or o (number_if (has_key k ks) (length t.keys))) (sym (ap (change_in k) found) ∙ h k x)
@@ -117,7 +117,7 @@ holds_touch holds after x ks ts t found h free is k y =
           ∙ ap (own_change x) (sym (is k))
           ∙ ap (λ z. own_change z (after k)) (xid_is x y same)
       | false ↦ λ other.
-          ap (change_in k) (open_beside_changed (touching ks) (λ u. refl) x y other ts)
+          ap (change_in k) (open_beside_changed (open_txn_after_change ks) (λ u. refl) x y other ts)
           ∙ h k y
           ∙ touch_other x y (length t.keys) (holds k) (has_key k ks) other
           ∙ ap (own_change y) (sym (is k))
@@ -169,39 +169,39 @@ undo_other x y n true (Some h) apart =
 pub holds_undo : (holds after : Key → Option Hold) (x : Xid) (front : List (List Key)) (ks : List Key) (ts : List OpenTxn) (t : OpenTxn) → open_of x ts ≡ Some t →
     t.keys ≡ front ++ ks ∷ [] → take (length t.keys - 1) t.keys ≡ front → Holds holds ts →
     ((k : Key) → after k ≡ cond (has_key k ks && is_hold x (length front) (holds k)) None (holds k)) →
-    Holds after (with_open giving_back x ts)
+    Holds after (with_open open_txn_after_undo x ts)
 holds_undo holds after x front ks ts t found split taken h is k y =
-    elim (same_xid x y) as (λ b. same_xid x y ≡ b → change_in k (open_of y (with_open giving_back x ts)) ≡ own_change y (after k)) [
+    elim (same_xid x y) as (λ b. same_xid x y ≡ b → change_in k (open_of y (with_open open_txn_after_undo x ts)) ≡ own_change y (after k)) [
       | true ↦ λ same.
           let was : option_or (first_from k 0 front) (number_if (has_key k ks) (length front)) ≡ own_change x (holds k) =
           ap (λ m. option_or (first_from k 0 front) (number_if (has_key k ks) m)) (let e : length front ≡ 0 + length front = omega arith in e)
           ∙ sym (first_append k 0 front ks) ∙ ap (first_from k 0) (sym split) ∙ sym (ap (change_in k) found) ∙ h k x in
-          ap (λ z. change_in k (open_of z (with_open giving_back x ts))) (sym (xid_is x y same))
-          ∙ ap (change_in k) (open_changed giving_back (λ u. refl) x ts ∙ ap (option_map giving_back) found)
+          ap (λ z. change_in k (open_of z (with_open open_txn_after_undo x ts))) (sym (xid_is x y same))
+          ∙ ap (change_in k) (open_changed open_txn_after_undo (λ u. refl) x ts ∙ ap (option_map open_txn_after_undo) found)
           ∙ ap (first_from k 0) taken
           ∙ undo_own x (length front) (first_from k 0 front) (has_key k ks) (holds k) (λ i e. let below = first_below k 0 front i e in omega (arith, below)) was
           ∙ ap (own_change x) (sym (is k))
           ∙ ap (λ z. own_change z (after k)) (xid_is x y same)
       | false ↦ λ other.
-          ap (change_in k) (open_beside_changed giving_back (λ u. refl) x y other ts)
+          ap (change_in k) (open_beside_changed open_txn_after_undo (λ u. refl) x y other ts)
           ∙ h k y
           ∙ undo_other x y (length front) (has_key k ks) (holds k) other
           ∙ ap (own_change y) (sym (is k))
     ] refl
 
 -- where there is none, nothing changes
-pub holds_bare : (holds : Key → Option Hold) (x : Xid) (ts : List OpenTxn) (t : OpenTxn) → open_of x ts ≡ Some t → t.keys ≡ [] → Holds holds ts → Holds holds (with_open giving_back x ts)
+pub holds_bare : (holds : Key → Option Hold) (x : Xid) (ts : List OpenTxn) (t : OpenTxn) → open_of x ts ≡ Some t → t.keys ≡ [] → Holds holds ts → Holds holds (with_open open_txn_after_undo x ts)
 holds_bare holds x ts t found bare h k y =
-    elim (same_xid x y) as (λ b. same_xid x y ≡ b → change_in k (open_of y (with_open giving_back x ts)) ≡ own_change y (holds k)) [
+    elim (same_xid x y) as (λ b. same_xid x y ≡ b → change_in k (open_of y (with_open open_txn_after_undo x ts)) ≡ own_change y (holds k)) [
       | true ↦ λ same.
-          ap (λ z. change_in k (open_of z (with_open giving_back x ts))) (sym (xid_is x y same))
-          ∙ ap (change_in k) (open_changed giving_back (λ u. refl) x ts ∙ ap (option_map giving_back) found)
+          ap (λ z. change_in k (open_of z (with_open open_txn_after_undo x ts))) (sym (xid_is x y same))
+          ∙ ap (change_in k) (open_changed open_txn_after_undo (λ u. refl) x ts ∙ ap (option_map open_txn_after_undo) found)
           ∙ ap (λ kss. first_from k 0 (take (length kss - 1) kss)) bare
           ∙ sym (ap (first_from k 0) bare)
           ∙ sym (ap (change_in k) found)
           ∙ h k x
           ∙ ap (λ z. own_change z (holds k)) (xid_is x y same)
-      | false ↦ λ other. ap (change_in k) (open_beside_changed giving_back (λ u. refl) x y other ts) ∙ h k y
+      | false ↦ λ other. ap (change_in k) (open_beside_changed open_txn_after_undo (λ u. refl) x y other ts) ∙ h k y
     ] refl
 
 -- ---- a transaction ends
@@ -221,12 +221,12 @@ close_other x y true (Some h) apart held =
 
 pub holds_close : (holds after : Key → Option Hold) (x : Xid) (ts : List OpenTxn) (t : OpenTxn) → open_of x ts ≡ Some t → Holds holds ts →
     ((k : Key) → after k ≡ cond (list_any (has_key k) t.keys) None (holds k)) →
-    Holds after (closed x ts)
+    Holds after (without_open x ts)
 holds_close holds after x ts t found h is k y =
     let was : first_from k 0 t.keys ≡ own_change x (holds k) = sym (ap (change_in k) found) ∙ h k x in
-    elim (same_xid x y) as (λ b. same_xid x y ≡ b → change_in k (open_of y (closed x ts)) ≡ own_change y (after k)) [
+    elim (same_xid x y) as (λ b. same_xid x y ≡ b → change_in k (open_of y (without_open x ts)) ≡ own_change y (after k)) [
       | true ↦ λ same.
-          ap (λ z. change_in k (open_of z (closed x ts))) (sym (xid_is x y same))
+          ap (λ z. change_in k (open_of z (without_open x ts))) (sym (xid_is x y same))
           ∙ ap (change_in k) (open_closed x ts)
           ∙ close_own x (list_any (has_key k) t.keys) (holds k) (λ e. sym was ∙ first_none k 0 t.keys e)
           ∙ ap (own_change x) (sym (is k))

@@ -5,7 +5,7 @@ use Rattle.std.specs.Option.{option_map, option_or, is_some}
 use Rattle.rl_value.specs.declared.xid.Xid.{Xid}
 use Rattle.rl_value.specs.Outcome.{is_empty}
 use Rattle.redo_spec.specs.History.{same_xid}
-use Rattle.redo_spec.specs.Standing.{OpenTxn, with_open, closed}
+use Rattle.redo_spec.specs.Standing.{OpenTxn, with_open, without_open}
 use Rattle.redo_law.specs.Calls.{open_of}
 use Rattle.redo_law.specs.Held.{Apart}
 use Rattle.redo_law.proofs.Ids.{xid_is, xid_sym}
@@ -45,11 +45,11 @@ with_open_none f x (t ∷ ts) e =
     let h = none_head (same_xid t.xid x) t (open_of x ts) e in
     ap (λ b. cond b (f t) t ∷ with_open f x ts) h.0 ∙ ap (λ us. t ∷ us) (with_open_none f x ts h.1)
 
-pub closed_none : (x : Xid) (ts : List OpenTxn) → open_of x ts ≡ None → closed x ts ≡ ts
+pub closed_none : (x : Xid) (ts : List OpenTxn) → open_of x ts ≡ None → without_open x ts ≡ ts
 closed_none x [] e = refl
 closed_none x (t ∷ ts) e =
     let h = none_head (same_xid t.xid x) t (open_of x ts) e in
-    ap (λ b. cond (not b) (t ∷ closed x ts) (closed x ts)) h.0 ∙ ap (λ us. t ∷ us) (closed_none x ts h.1)
+    ap (λ b. cond (not b) (t ∷ without_open x ts) (without_open x ts)) h.0 ∙ ap (λ us. t ∷ us) (closed_none x ts h.1)
 
 -- ---- which one an id names then
 
@@ -88,18 +88,18 @@ open_beside_changed f keeps x y apart (t ∷ ts) =
       | false ↦ λ is. ap (λ o. cond (same_xid t.xid y) (Some t) o) (open_beside_changed f keeps x y apart ts)
     ] refl
 
-pub open_closed : (x : Xid) (ts : List OpenTxn) → open_of x (closed x ts) ≡ None
+pub open_closed : (x : Xid) (ts : List OpenTxn) → open_of x (without_open x ts) ≡ None
 open_closed x [] = refl
 open_closed x (t ∷ ts) =
-    elim (same_xid t.xid x) as (λ b. same_xid t.xid x ≡ b → open_of x (cond (not b) (t ∷ closed x ts) (closed x ts)) ≡ None) [
+    elim (same_xid t.xid x) as (λ b. same_xid t.xid x ≡ b → open_of x (cond (not b) (t ∷ without_open x ts) (without_open x ts)) ≡ None) [
       | true ↦ λ is. open_closed x ts
-      | false ↦ λ is. ap (λ b. cond b (Some t) (open_of x (closed x ts))) is ∙ open_closed x ts
+      | false ↦ λ is. ap (λ b. cond b (Some t) (open_of x (without_open x ts))) is ∙ open_closed x ts
     ] refl
 
-pub open_beside_closed : (x y : Xid) → same_xid x y ≡ false → (ts : List OpenTxn) → open_of y (closed x ts) ≡ open_of y ts
+pub open_beside_closed : (x y : Xid) → same_xid x y ≡ false → (ts : List OpenTxn) → open_of y (without_open x ts) ≡ open_of y ts
 open_beside_closed x y apart [] = refl
 open_beside_closed x y apart (t ∷ ts) =
-    elim (same_xid t.xid x) as (λ b. same_xid t.xid x ≡ b → open_of y (cond (not b) (t ∷ closed x ts) (closed x ts)) ≡ cond (same_xid t.xid y) (Some t) (open_of y ts)) [
+    elim (same_xid t.xid x) as (λ b. same_xid t.xid x ≡ b → open_of y (cond (not b) (t ∷ without_open x ts) (without_open x ts)) ≡ cond (same_xid t.xid y) (Some t) (open_of y ts)) [
       | true ↦ λ is. open_beside_closed x y apart ts ∙ sym (ap (λ b. cond b (Some t) (open_of y ts)) (apart_ids t.xid x y apart is))
       | false ↦ λ is. ap (λ o. cond (same_xid t.xid y) (Some t) o) (open_beside_closed x y apart ts)
     ] refl
@@ -125,10 +125,10 @@ none_changed f keeps x y ts e =
       | false ↦ λ is. open_beside_changed f keeps x y is ts ∙ e
     ] refl
 
-pub none_closed : (x y : Xid) (ts : List OpenTxn) → open_of y ts ≡ None → open_of y (closed x ts) ≡ None
+pub none_closed : (x y : Xid) (ts : List OpenTxn) → open_of y ts ≡ None → open_of y (without_open x ts) ≡ None
 none_closed x y ts e =
-    elim (same_xid x y) as (λ b. same_xid x y ≡ b → open_of y (closed x ts) ≡ None) [
-      | true ↦ λ is. ap (λ z. open_of y (closed z ts)) (xid_is x y is) ∙ open_closed y ts
+    elim (same_xid x y) as (λ b. same_xid x y ≡ b → open_of y (without_open x ts) ≡ None) [
+      | true ↦ λ is. ap (λ z. open_of y (without_open z ts)) (xid_is x y is) ∙ open_closed y ts
       | false ↦ λ is. open_beside_closed x y is ts ∙ e
     ] refl
 
@@ -141,10 +141,10 @@ apart_changed f keeps x [] a = tt
 apart_changed f keeps x (t ∷ ts) a =
     (ap (λ i. open_of i (with_open f x ts)) (id_kept f keeps (same_xid t.xid x) t) ∙ none_changed f keeps x t.xid ts a.0, apart_changed f keeps x ts a.1)
 
-pub apart_closed : (x : Xid) (ts : List OpenTxn) → Apart ts → Apart (closed x ts)
+pub apart_closed : (x : Xid) (ts : List OpenTxn) → Apart ts → Apart (without_open x ts)
 apart_closed x [] a = tt
 apart_closed x (t ∷ ts) a =
-    elim (same_xid t.xid x) as (λ b. Apart (cond (not b) (t ∷ closed x ts) (closed x ts))) [
+    elim (same_xid t.xid x) as (λ b. Apart (cond (not b) (t ∷ without_open x ts) (without_open x ts))) [
       | true ↦ apart_closed x ts a.1
       | false ↦ (none_closed x t.xid ts a.0, apart_closed x ts a.1)
     ]

@@ -13,7 +13,7 @@ use Rattle.rl_value.specs.declared.pos.Pos.{Pos}
 use Rattle.rl_value.specs.declared.xid.Xid.{Xid}
 use Rattle.rl_value.specs.Order.{key_cmp}
 use Rattle.redo_spec.specs.Locks.{least}
-use Rattle.redo_spec.specs.Standing.{OpenTxn, with_open, closed, touching, giving_back}
+use Rattle.redo_spec.specs.Standing.{OpenTxn, with_open, without_open, open_txn_after_change, open_txn_after_undo}
 use Rattle.redo_law.specs.declared.hold.Hold.{Hold}
 use Rattle.redo_law.specs.declared.survivors.Open.{Open}
 use Rattle.redo_law.specs.declared.table.Table.{Table}
@@ -104,9 +104,9 @@ abbrev pub more_keys : List Key → Open → Open
 more_keys ks o = record o { keys = o.keys ++ ks ∷ [] }
 
 pub touch_list : (t : Table) (es : List (Pos × Open)) (x : Xid) (ks : List Key) (start : Pos) → IsTable t → (l : Located t x start) → es ≡ set_value (is_at (pos_cmp start)) t.txns.entries (more_keys ks l.txn) →
-    opened_all es ≡ with_open (touching ks) x (txns_of t)
+    opened_all es ≡ with_open (open_txn_after_change ks) x (txns_of t)
 touch_list t es x ks start h l is =
-    ap opened_all is ∙ set_changed (touching ks) x t.txns.entries (opened (start, l.txn)) (more_keys ks l.txn) h.ordered h.apart l.found refl
+    ap opened_all is ∙ set_changed (open_txn_after_change ks) x t.txns.entries (opened (start, l.txn)) (more_keys ks l.txn) h.ordered h.apart l.found refl
 
 pub touch_table : (t u : Table) (x : Xid) (ks : List Key) (start : Pos) → IsTable t → (l : Located t x start) → least (kept_out x ks (txns_of t)) ≡ None →
     u.txns.entries ≡ set_value (is_at (pos_cmp start)) t.txns.entries (more_keys ks l.txn) → tree.IsOrdered pos_cmp u.txns → u.xids ≡ t.xids →
@@ -116,14 +116,14 @@ touch_table t u x ks start h l free is ordered ids locks survivors =
     let was = opened (start, l.txn) in
     let holds = tree.get key_cmp t.locks in
     subst (Keeps u) (sym (touch_list t u.txns.entries x ks start h l is)) (record {
-      ids = λ y. ap (λ m. tree.get xid_cmp m y) ids ∙ h.ids y ∙ starts_changed (touching ks) (λ v. refl) (λ v. refl) x ts y;
-      apart = apart_changed (touching ks) (λ v. refl) x ts h.apart;
+      ids = λ y. ap (λ m. tree.get xid_cmp m y) ids ∙ h.ids y ∙ starts_changed (open_txn_after_change ks) (λ v. refl) (λ v. refl) x ts y;
+      apart = apart_changed (open_txn_after_change ks) (λ v. refl) x ts h.apart;
       ordered = ordered;
       holds = holds_touch holds (tree.get key_cmp u.locks) x ks ts was l.found h.holds (λ k g. free_of_blocked holds x ks (least_blocked holds x ks ts h.holds h.apart ∙ free) k g)
           (λ q. locks q ∙ ap (λ i. taken holds ks (record { holder = i; change = length l.txn.keys }) q) l.id);
       count =
           let one : length (l.txn.keys ++ ks ∷ []) ≡ length l.txn.keys + 1 = length-append l.txn.keys (ks ∷ []) in
-          let more = count_changed (touching ks) x ts was h.apart l.found in
+          let more = count_changed (open_txn_after_change ks) x ts was h.apart l.found in
           let before = h.count in
           omega (arith, one, more, before, survivors);
     })
@@ -131,9 +131,9 @@ touch_table t u x ks start h l free is ordered ids locks survivors =
 -- ---- the latest change is taken back
 
 pub undo_list : (t : Table) (es : List (Pos × Open)) (x : Xid) (start : Pos) (w : Open) → IsTable t → (l : Located t x start) → w.xid ≡ l.txn.xid → w.keys ≡ take (length l.txn.keys - 1) l.txn.keys →
-    es ≡ set_value (is_at (pos_cmp start)) t.txns.entries w → opened_all es ≡ with_open giving_back x (txns_of t)
+    es ≡ set_value (is_at (pos_cmp start)) t.txns.entries w → opened_all es ≡ with_open open_txn_after_undo x (txns_of t)
 undo_list t es x start w h l id keys is =
-    ap opened_all is ∙ set_changed giving_back x t.txns.entries (opened (start, l.txn)) w h.ordered h.apart l.found (λ i. record { start = start; xid = id i; keys = keys i })
+    ap opened_all is ∙ set_changed open_txn_after_undo x t.txns.entries (opened (start, l.txn)) w h.ordered h.apart l.found (λ i. record { start = start; xid = id i; keys = keys i })
 
 pub undo_table : (t u : Table) (x : Xid) (start : Pos) (w : Open) (count : ℕ) → IsTable t → (l : Located t x start) → GivesBack l.txn w (tree.get key_cmp t.locks) (tree.get key_cmp u.locks) count →
     u.txns.entries ≡ set_value (is_at (pos_cmp start)) t.txns.entries w → tree.IsOrdered pos_cmp u.txns → u.xids ≡ t.xids → u.survivors + count ≡ t.survivors → IsTable u
@@ -141,14 +141,14 @@ undo_table t u x start w count h l g is ordered ids survivors =
     let ts = txns_of t in
     let was = opened (start, l.txn) in
     subst (Keeps u) (sym (undo_list t u.txns.entries x start w h l g.xid g.keys is)) (record {
-      ids = λ y. ap (λ m. tree.get xid_cmp m y) ids ∙ h.ids y ∙ starts_changed giving_back (λ v. refl) (λ v. refl) x ts y;
-      apart = apart_changed giving_back (λ v. refl) x ts h.apart;
+      ids = λ y. ap (λ m. tree.get xid_cmp m y) ids ∙ h.ids y ∙ starts_changed open_txn_after_undo (λ v. refl) (λ v. refl) x ts y;
+      apart = apart_changed open_txn_after_undo (λ v. refl) x ts h.apart;
       ordered = ordered;
-      holds = subst (λ (i : Xid). Holds (tree.get key_cmp u.locks) (with_open giving_back i ts)) l.id
+      holds = subst (λ (i : Xid). Holds (tree.get key_cmp u.locks) (with_open open_txn_after_undo i ts)) l.id
           (g.freed ts start (ap (λ i. open_of i ts) l.id ∙ l.found) h.holds);
       count =
           let left : length w.keys ≡ length (take (length l.txn.keys - 1) l.txn.keys) = ap length g.keys in
-          let more = count_changed giving_back x ts was h.apart l.found in
+          let more = count_changed open_txn_after_undo x ts was h.apart l.found in
           let before = h.count in
           let counted = g.counted in
           omega (arith, left, more, before, survivors, counted);
@@ -163,7 +163,7 @@ count_least t x start w count h l e =
 
 -- ---- a transaction ends
 
-pub close_list : (t : Table) (es : List (Pos × Open)) (x : Xid) (start : Pos) → IsTable t → (l : Located t x start) → es ≡ remove_entry (is_at (pos_cmp start)) t.txns.entries → opened_all es ≡ closed x (txns_of t)
+pub close_list : (t : Table) (es : List (Pos × Open)) (x : Xid) (start : Pos) → IsTable t → (l : Located t x start) → es ≡ remove_entry (is_at (pos_cmp start)) t.txns.entries → opened_all es ≡ without_open x (txns_of t)
 close_list t es x start h l is = ap opened_all is ∙ removed_closed x t.txns.entries (opened (start, l.txn)) h.ordered h.apart l.found
 
 pub close_table : (t u : Table) (x : Xid) (start : Pos) → IsTable t → (l : Located t x start) → u.txns.entries ≡ remove_entry (is_at (pos_cmp start)) t.txns.entries → tree.IsOrdered pos_cmp u.txns →

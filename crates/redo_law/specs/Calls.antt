@@ -11,7 +11,7 @@ use Rattle.redo_vec.specs.declared.vector.Vector.TheVariants.{Start, Change as O
 use Rattle.redo_spec.specs.declared.header.Header.{Header}
 use Rattle.redo_spec.specs.History.{Entry, same_xid}
 use Rattle.redo_spec.specs.Law.{vector_fault, whole_fault}
-use Rattle.redo_spec.specs.Standing.{OpenTxn, Standing, is_open, standing_after, entered}
+use Rattle.redo_spec.specs.Standing.{OpenTxn, Standing, is_open, standing_after, standing_at_record}
 use Rattle.redo_law.specs.declared.start.LawStart.{LawStart}
 use Rattle.redo_law.specs.declared.fault.AdmitFault.{AdmitFault}
 use Rattle.redo_law.specs.declared.fault.AdmitFault.TheVariants as faults
@@ -94,4 +94,4 @@ may_want_in h vec (v ∷ vs) s =
 
 -- memory may want at a vector of the record, which may follow as a whole
 abbrev pub wants_memory : Standing → Entry → Bool
-wants_memory s (h, r) = is_none (whole_fault s (h, r)) && may_want_in h 1 r.vectors (entered (h, r) s)
+wants_memory s (h, r) = is_none (whole_fault s (h, r)) && may_want_in h 1 r.vectors (standing_at_record (h, r) s)

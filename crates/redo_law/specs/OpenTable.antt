@@ -9,7 +9,7 @@ use Rattle.rl_value.specs.declared.key.Key.{Key}
 use Rattle.rl_value.specs.declared.pos.Pos.{Pos}
 use Rattle.rl_value.specs.declared.xid.Xid.{Xid}
 use Rattle.rl_value.specs.Order.{key_cmp}
-use Rattle.redo_spec.specs.Standing.{OpenTxn, with_open, giving_back}
+use Rattle.redo_spec.specs.Standing.{OpenTxn, with_open, open_txn_after_undo}
 use Rattle.redo_law.specs.declared.hold.Hold.{Hold}
 use Rattle.redo_law.specs.declared.survivors.Open.{Open}
 use Rattle.redo_law.specs.declared.table.Table.{Table}
@@ -52,4 +52,4 @@ pub record GivesBack (old new : Open) (holds after : Key → Option Hold) (count
   pub xid : new.xid ≡ old.xid
   pub keys : new.keys ≡ take (length old.keys - 1) old.keys
   pub counted : length new.keys + count ≡ length old.keys
-  pub freed : (ts : List OpenTxn) (start : Pos) → open_of old.xid ts ≡ Some (opened (start, old)) → Holds holds ts → Holds after (with_open giving_back old.xid ts)
+  pub freed : (ts : List OpenTxn) (start : Pos) → open_of old.xid ts ≡ Some (opened (start, old)) → Holds holds ts → Holds after (with_open open_txn_after_undo old.xid ts)

@@ -7,7 +7,7 @@ ghost use Rattle.std.specs.Option.{option_copied};
 ghost use Rattle.std.specs.List.{list_any, flat_map, enumerate_from};
 ghost use Rattle.rl_value.specs.Outcome.{all_of};
 ghost use Rattle.redo_vec.specs.Forms.{is_key_columns};
-ghost use Rattle.redo_spec.specs.ConflictKeys.{cell_at, key_of, key_at, keys_given, cells_after, conflict_keys, conflict_keys_in, is_null};
+ghost use Rattle.redo_spec.specs.ConflictKeys.{cell_of, key_if_whole, key_by_columns, keys_given, cells_after, conflict_keys, conflict_keys_in, is_null};
 ghost use Rattle.redo_law.specs.Given.{one_or_none};
 
 use redo_dict::Dict;
@@ -17,7 +17,7 @@ use std::alloc::Global;
 
 // The value that the cells give for a column.
 fn value_in<'c>(cells: &'c [(u8, Value)], column: u8) -> Option<&'c Value>
-    ensures { option_copied result ≡ cell_at cells.now column }
+    ensures { option_copied result ≡ cell_of cells.now column }
 {
     let mut rest = cells;
     while let [cell, others @ ..] = rest {
@@ -35,7 +35,7 @@ fn value_of<'c>(
     second: &'c [(u8, Value)],
     column: u8,
 ) -> Option<&'c Value>
-    ensures { option_copied result ≡ cell_at (first.now ++ second.now) column }
+    ensures { option_copied result ≡ cell_of (first.now ++ second.now) column }
 {
     let Some(value) = value_in(first, column) else {
         return value_in(second, column);
@@ -51,7 +51,7 @@ fn values_of(
     columns: &[u8],
 ) -> Result<Option<Row>, NoMemory>
     requires { IsTrue (is_key_columns columns.now) }
-    ensures { IfOk result (λ values. values ≡ all_of (map (cell_at (first.now ++ second.now)) columns.now)) }
+    ensures { IfOk result (λ values. values ≡ all_of (map (cell_of (first.now ++ second.now)) columns.now)) }
 {
     let mut values = Vec::new(alloc);
     let mut rest = columns;
@@ -84,7 +84,7 @@ fn has_null(values: &Row) -> bool
 
 // The key of these values; a unique key with a Null in it is none.
 fn key_if(table: u32, index: u8, values: Row) -> Option<Key>
-    ensures { one_or_none result ≡ key_of table index (Some values) }
+    ensures { one_or_none result ≡ key_if_whole table index (Some values) }
 {
     if index > 0 && has_null(&values) {
         return None;
@@ -104,7 +104,7 @@ fn key_given(
     first: &[(u8, Value)],
     second: &[(u8, Value)],
 ) -> Result<Option<Key>, NoMemory>
-    ensures { IfOk result (λ key. one_or_none key ≡ key_at table (cell_at (first.now ++ second.now)) (index, columns.now)) }
+    ensures { IfOk result (λ key. one_or_none key ≡ key_by_columns table (cell_of (first.now ++ second.now)) (index, columns.now)) }
 {
     match values_of(alloc, first, second, columns.items())? {
         None => Ok(None),
@@ -132,7 +132,7 @@ fn add_keys(
     first: &[(u8, Value)],
     second: &[(u8, Value)],
 ) -> Result<(), NoMemory>
-    ensures { OnOk result (keys.new.items ≡ keys.old.items ++ keys_given table.now (cell_at (first.now ++ second.now))) }
+    ensures { OnOk result (keys.new.items ≡ keys.old.items ++ keys_given table.now (cell_of (first.now ++ second.now))) }
 {
     let mut rest = table.keys.items();
     let mut index = 0;
@@ -152,7 +152,7 @@ fn add_keys_after(
     table: &TableRow,
     change: &Change,
 ) -> Result<(), NoMemory>
-    ensures { OnOk result (keys.new.items ≡ keys.old.items ++ keys_given table.now (cell_at (cells_after change.now))) }
+    ensures { OnOk result (keys.new.items ≡ keys.old.items ++ keys_given table.now (cell_of (cells_after change.now))) }
 {
     let old = change.old.cells();
     let new = change.new.cells();

@@ -10,7 +10,7 @@ ghost use Rattle.redo_spec.specs.Dictionary.{table_fault, is_of_dictionary};
 ghost use Rattle.std.specs.Option.{option_or};
 ghost use Rattle.redo_spec.specs.Locks.{least};
 ghost use Rattle.redo_law.specs.Held.{kept_out};
-ghost use Rattle.redo_spec.specs.Standing.{is_open, standing_after, standing_after_all, survivor_count, record_after, with_open, touching};
+ghost use Rattle.redo_spec.specs.Standing.{is_open, standing_after, standing_after_all, survivor_count, record_after, with_open, open_txn_after_change};
 ghost use Rattle.redo_spec.specs.Law.{open_limit, count_fault, record_fault, dictionary_left, breaks_chain, ends_txn, whole_fault, dictionary_fault, own_fault, vector_fault, vectors_fault, left_by_vectors, is_passed_over, nothing_survives, made_fault, unless};
 ghost use Rattle.redo_dict.specs.Refusals.{IsTableRefusal, change_reason};
 ghost use Rattle.redo_law.specs.Calls.{Judges, Leaves, Refuses, OnWant, takes_memory, may_want, may_want_in, wants_memory};
@@ -195,7 +195,7 @@ impl State {
     fn make(&mut self, xid: Xid, keys: Vec<Key>) -> Result<(), AdmitFault>
         requires { IsTable self.old.table }
         ensures table { OnOk result (IsTable self.new.table) }
-        ensures done { OnOk result (seen self.new ≡ with_active (with_open (touching keys.items) xid (seen self.old).active) (seen self.old)) }
+        ensures done { OnOk result (seen self.new ≡ with_active (with_open (open_txn_after_change keys.items) xid (seen self.old).active) (seen self.old)) }
         ensures exact { Judges (option_or (lock_told (least (kept_out xid keys.items (seen self.old).active))) (count_fault (survivor_count (seen self.old)))) result }
         ensures left { Leaves self.old.dict self.new.dict result }
     {

@@ -7,7 +7,7 @@ ghost use Rattle.std.specs.Prelude.{◌≡◌, ◌++◌, ◌∷◌, [], ◌<◌,
 ghost use Rattle.std.specs.BTreeMap as tree;
 ghost use Rattle.rl_value.specs.Order.{key_cmp};
 ghost use Rattle.redo_spec.specs.Locks.{least};
-ghost use Rattle.redo_spec.specs.Standing.{with_open, closed, touching, giving_back};
+ghost use Rattle.redo_spec.specs.Standing.{with_open, without_open, open_txn_after_change, open_txn_after_undo};
 ghost use Rattle.std.specs.List.{list_any};
 ghost use Rattle.std.specs.Option.{option_map};
 ghost use Rattle.redo_law.specs.Shown.{shown_pair};
@@ -154,7 +154,7 @@ impl Table {
         requires free { least (kept_out xid keys.items (txns_of self.old)) ≡ None }
         requires room { change_count (txns_of self.old) < 2 ^ 19 }
         ensures table { OnOk result (IsTable self.new) }
-        ensures touched { OnOk result (txns_of self.new ≡ with_open (touching keys.items) xid (txns_of self.old)) }
+        ensures touched { OnOk result (txns_of self.new ≡ with_open (open_txn_after_change keys.items) xid (txns_of self.old)) }
     {
         let Some(start) = self.xids.get(&xid) else {
             return Ok(());
@@ -174,7 +174,7 @@ impl Table {
     pub fn undo(&mut self, xid: Xid)
         requires { IsTable self.old }
         ensures table { IsTable self.new }
-        ensures undone { txns_of self.new ≡ with_open giving_back xid (txns_of self.old) }
+        ensures undone { txns_of self.new ≡ with_open open_txn_after_undo xid (txns_of self.old) }
     {
         let Some(start) = self.xids.get(&xid) else {
             return;
@@ -191,7 +191,7 @@ impl Table {
     pub fn close(&mut self, xid: Xid)
         requires { IsTable self.old }
         ensures table { IsTable self.new }
-        ensures closed { txns_of self.new ≡ closed xid (txns_of self.old) }
+        ensures closed { txns_of self.new ≡ without_open xid (txns_of self.old) }
     {
         let Some(start) = self.xids.remove(&xid) else {
             return;

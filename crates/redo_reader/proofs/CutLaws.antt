@@ -12,26 +12,26 @@ use Rattle.redo_vec.specs.Cutting.{number_in, first_record}
 use Rattle.redo_spec.specs.declared.header.Header.{Header}
 use Rattle.redo_wire.specs.declared.raw.Raw.{Raw}
 use Rattle.redo_wire.specs.declared.cutting.LogPlace.{LogPlace}
-use Rattle.redo_wire.specs.Stream.{Cut as LogCut, Stream, with_raw, cut_or, cut_off, behind as past, raw_at, begun, given, nothing, fed, joined}
-use Rattle.redo_reader.specs.Steps.{with_raws, behind_all, GoesOn}
+use Rattle.redo_wire.specs.Stream.{Cut as LogCut, Stream, with_raw, cut_or, cut_off, log_place_behind as past, raw_of_bytes, stream_at, cut_of_piece, empty_cut, stream_after, joined_cut}
+use Rattle.redo_reader.specs.Steps.{with_raws, log_place_behind_all, GoesOn}
 
 -- ---- the place behind a cut
 
-walks_by : (h : Header) (k : ℕ) (p : LogPlace) (bytes : List ℕ) → ((q : LogPlace) (rest : List ℕ) → (cut_off h k q rest).place ≡ behind_all q (cut_off h k q rest).raws) → (r : Result (List ℕ × List ℕ) CutFault)
-    → (cut_or r p bytes (λ found rest. with_raw (raw_at h p found) (cut_off h k (past p found) rest))).place ≡ behind_all p (cut_or r p bytes (λ found rest. with_raw (raw_at h p found) (cut_off h k (past p found) rest))).raws
+walks_by : (h : Header) (k : ℕ) (p : LogPlace) (bytes : List ℕ) → ((q : LogPlace) (rest : List ℕ) → (cut_off h k q rest).place ≡ log_place_behind_all q (cut_off h k q rest).raws) → (r : Result (List ℕ × List ℕ) CutFault)
+    → (cut_or r p bytes (λ found rest. with_raw (raw_of_bytes h p found) (cut_off h k (past p found) rest))).place ≡ log_place_behind_all p (cut_or r p bytes (λ found rest. with_raw (raw_of_bytes h p found) (cut_off h k (past p found) rest))).raws
 walks_by h k p bytes later (Ok x) = later (past p x.0) x.1
 walks_by h k p bytes later (Err fault) = refl
 
-pub walks : (h : Header) (k : ℕ) (p : LogPlace) (bytes : List ℕ) → (cut_off h k p bytes).place ≡ behind_all p (cut_off h k p bytes).raws
+pub walks : (h : Header) (k : ℕ) (p : LogPlace) (bytes : List ℕ) → (cut_off h k p bytes).place ≡ log_place_behind_all p (cut_off h k p bytes).raws
 walks h zero p [] = refl
 walks h zero p (b ∷ bytes) = refl
 walks h (suc k) p bytes = walks_by h k p bytes (λ q rest. walks h k q rest) (first_record bytes)
 
-given_walks : (fault_told : Bool) (s : Stream) (piece : List ℕ) → s.fault_told ≡ fault_told → (given s piece).place ≡ behind_all s.place (given s piece).raws
+given_walks : (fault_told : Bool) (s : Stream) (piece : List ℕ) → s.fault_told ≡ fault_told → (cut_of_piece s piece).place ≡ log_place_behind_all s.place (cut_of_piece s piece).raws
 given_walks true s piece is = rw is refl
 given_walks false s piece is = rw is (walks s.head (s.head.count - s.place.done) s.place (s.left ++ piece))
 
-pub stream_walks : (s : Stream) (piece : List ℕ) → (given s piece).place ≡ behind_all s.place (given s piece).raws
+pub stream_walks : (s : Stream) (piece : List ℕ) → (cut_of_piece s piece).place ≡ log_place_behind_all s.place (cut_of_piece s piece).raws
 stream_walks s piece = given_walks s.fault_told s piece refl
 
 -- ---- the first record of a cut
@@ -58,12 +58,12 @@ pub record IsTaken (whole : LogCut) (h : Header) (k : ℕ) (p : LogPlace) (b : L
   pub rest : cut_off h (k - 1) (past p raw.bytes) (drop (length raw.bytes) b) ≡ with_raws ws cause c
 
 taken_ok : (h : Header) (k : ℕ) (p : LogPlace) (b : List ℕ) (x : List ℕ × List ℕ) (raw : Raw) (ws : List Raw) (cause : Option CutFault) (c : LogCut) → first_record b ≡ Ok x
-    → with_raw (raw_at h p x.0) (cut_off h k (past p x.0) x.1) ≡ with_raws (raw ∷ ws) cause c
-    → IsTaken (with_raw (raw_at h p x.0) (cut_off h k (past p x.0) x.1)) h (suc k) p b raw ws cause c
+    → with_raw (raw_of_bytes h p x.0) (cut_off h k (past p x.0) x.1) ≡ with_raws (raw ∷ ws) cause c
+    → IsTaken (with_raw (raw_of_bytes h p x.0) (cut_off h k (past p x.0) x.1)) h (suc k) p b raw ws cause c
 taken_ok h k p b x raw ws cause c is e =
     let t : LogCut = cut_off h k (past p x.0) x.1 in
-    let rs : raw_at h p x.0 ∷ t.raws ≡ raw ∷ (ws ++ c.raws) = ap (λ (d : LogCut). d.raws) e in
-    let first : raw_at h p x.0 ≡ raw = cc in
+    let rs : raw_of_bytes h p x.0 ∷ t.raws ≡ raw ∷ (ws ++ c.raws) = ap (λ (d : LogCut). d.raws) e in
+    let first : raw_of_bytes h p x.0 ≡ raw = cc in
     let rest : t.raws ≡ ws ++ c.raws = cc in
     let place : t.place ≡ c.place = ap (λ (d : LogCut). d.place) e in
     let left : t.left ≡ c.left = ap (λ (d : LogCut). d.left) e in
@@ -76,8 +76,8 @@ taken_ok h k p b x raw ws cause c is e =
     record { first = (λ i. with_raw (first i) (sym same i)); rest = same ∙ tail }
 
 taken_by : (h : Header) (k : ℕ) (p : LogPlace) (b : List ℕ) (r : Result (List ℕ × List ℕ) CutFault) (raw : Raw) (ws : List Raw) (cause : Option CutFault) (c : LogCut) → first_record b ≡ r
-    → cut_or r p b (λ found rest. with_raw (raw_at h p found) (cut_off h k (past p found) rest)) ≡ with_raws (raw ∷ ws) cause c
-    → IsTaken (cut_or r p b (λ found rest. with_raw (raw_at h p found) (cut_off h k (past p found) rest))) h (suc k) p b raw ws cause c
+    → cut_or r p b (λ found rest. with_raw (raw_of_bytes h p found) (cut_off h k (past p found) rest)) ≡ with_raws (raw ∷ ws) cause c
+    → IsTaken (cut_or r p b (λ found rest. with_raw (raw_of_bytes h p found) (cut_off h k (past p found) rest))) h (suc k) p b raw ws cause c
 taken_by h k p b (Ok x) raw ws cause c is e = taken_ok h k p b x raw ws cause c is e
 taken_by h k p b (Err fault) raw ws cause c is e = let none : [] ≡ raw ∷ (ws ++ c.raws) = ap (λ (d : LogCut). d.raws) e in absurd (cc)
 
@@ -92,7 +92,7 @@ begun_by : (n : ℕ) (h : Header) (p : LogPlace) → cut_off h n p [] ≡ record
 begun_by zero h p = refl
 begun_by (suc n) h p = refl
 
-pub begun_settled : (h : Header) (rec at done : ℕ) → given (begun h rec at done) [] ≡ nothing (begun h rec at done)
+pub begun_settled : (h : Header) (rec at done : ℕ) → cut_of_piece (stream_at h rec at done) [] ≡ empty_cut (stream_at h rec at done)
 begun_settled h rec at done = begun_by (h.count - done) h (record { rec = rec; at = at; done = done })
 
 no_more : {X : Type 0} (xs ys : List X) → xs ≡ xs ++ ys → ys ≡ []
@@ -103,11 +103,11 @@ second_none : (c d e : Option CutFault) → c ≡ None → c ≡ option_or c d �
 second_none None d e is h = sym h
 second_none (Some f) d e is h = absurd (cc)
 
-pub fed_settled : (s : Stream) (piece : List ℕ) → GoesOn s piece → (given s piece).cause ≡ None → given (fed s piece) [] ≡ nothing (fed s piece)
+pub fed_settled : (s : Stream) (piece : List ℕ) → GoesOn s piece → (cut_of_piece s piece).cause ≡ None → cut_of_piece (stream_after s piece) [] ≡ empty_cut (stream_after s piece)
 fed_settled s piece on none =
-    let a : LogCut = given s piece in
-    let d : LogCut = given (fed s piece) [] in
-    let e : a ≡ joined a d = ap (given s) (sym (append-nil piece)) ∙ on [] in
+    let a : LogCut = cut_of_piece s piece in
+    let d : LogCut = cut_of_piece (stream_after s piece) [] in
+    let e : a ≡ joined_cut a d = ap (cut_of_piece s) (sym (append-nil piece)) ∙ on [] in
     let raws : d.raws ≡ [] = no_more a.raws d.raws (ap (λ (c : LogCut). c.raws) e) in
     let place : d.place ≡ a.place = sym (ap (λ (c : LogCut). c.place) e) in
     let left : d.left ≡ a.left = sym (ap (λ (c : LogCut). c.left) e) in

@@ -9,7 +9,7 @@ use Rattle.redo_spec.specs.LogHeader.{header_in, header_fault}
 use Rattle.redo_wire.specs.declared.cutting.LogPlace.{LogPlace}
 use Rattle.log_registry.specs.declared.entry.LogEntry.{LogEntry}
 use Rattle.log_registry.specs.declared.fault.RegFault.TheVariants as refusals
-use Rattle.log_registry.specs.Registered.{Following, AreOf, IsOf, AreBelow, RiseFrom, entry_of, entries_from, count_of, next_in, inspected, of_database, unless_refused, Log, End, Gap}
+use Rattle.log_registry.specs.Registered.{Following, AreToldBy, IsToldBy, AreBelow, RiseFrom, entry_of, entries_from, count_of, next_in, answer_of_inspect, of_database, entry_unless_refused, Log, End, Gap}
 use Rattle.redo_reader.specs.Ahead.{ahead_in, nothing_but}
 use Rattle.redo_reader.specs.Reading.{done_within}
 
@@ -123,11 +123,11 @@ found seq (first ∷ es) e later is same = found_at (nat_lt first.head.seq seq) 
 
 -- ---- the archive's log
 
-of_at : (b : Bool) (logs : ℕ → Option (List ℕ)) (seq : ℕ) (first : LogEntry) (es : List LogEntry) (e : LogEntry) (later : List LogEntry) → cond b (entries_from seq es) (first ∷ es) ≡ e ∷ later → IsOf logs first → (entries_from seq es ≡ e ∷ later → IsOf logs e) → IsOf logs e
+of_at : (b : Bool) (logs : ℕ → Option (List ℕ)) (seq : ℕ) (first : LogEntry) (es : List LogEntry) (e : LogEntry) (later : List LogEntry) → cond b (entries_from seq es) (first ∷ es) ≡ e ∷ later → IsToldBy logs first → (entries_from seq es ≡ e ∷ later → IsToldBy logs e) → IsToldBy logs e
 of_at true logs seq first es e later is of next = next is
-of_at false logs seq first es e later is of next = let head : first ≡ e = cc in subst (IsOf logs) head of
+of_at false logs seq first es e later is of next = let head : first ≡ e = cc in subst (IsToldBy logs) head of
 
-pub first_of : (logs : ℕ → Option (List ℕ)) (seq : ℕ) (es : List LogEntry) (e : LogEntry) (later : List LogEntry) → AreOf logs es → entries_from seq es ≡ e ∷ later → IsOf logs e
+pub first_of : (logs : ℕ → Option (List ℕ)) (seq : ℕ) (es : List LogEntry) (e : LogEntry) (later : List LogEntry) → AreToldBy logs es → entries_from seq es ≡ e ∷ later → IsToldBy logs e
 first_of logs seq [] e later of is = absurd (cc)
 first_of logs seq (first ∷ es) e later of is = of_at (nat_lt first.head.seq seq) logs seq first es e later is of.0 (λ more. first_of logs seq es e later of.1 more)
 
@@ -140,16 +140,16 @@ database_size : (b : Bool) (h : Header) (size : ℕ) (e : LogEntry) → cond b (
 database_size true h size e is = let same : (let f : LogEntry = record { head = h; length = size } in f) ≡ e = cc in sym (ap (λ (f : LogEntry). f.length) same)
 database_size false h size e is = absurd (cc)
 
-judged_size : (o : Option HeadFault) (dbid : ℕ) (h : Header) (size : ℕ) (e : LogEntry) → unless_refused o (of_database dbid h size) ≡ Ok e → e.length ≡ size
+judged_size : (o : Option HeadFault) (dbid : ℕ) (h : Header) (size : ℕ) (e : LogEntry) → entry_unless_refused o (of_database dbid h size) ≡ Ok e → e.length ≡ size
 judged_size None dbid h size e is = database_size (h.dbid == dbid) h size e is
 judged_size (Some fault) dbid h size e is = absurd (cc)
 
-bytes_by : (log : Option (List ℕ)) (seq dbid : ℕ) (e : LogEntry) → inspected seq dbid log ≡ Ok e → HasBytes log e
+bytes_by : (log : Option (List ℕ)) (seq dbid : ℕ) (e : LogEntry) → answer_of_inspect seq dbid log ≡ Ok e → HasBytes log e
 bytes_by None seq dbid e is = absurd (cc)
 bytes_by (Some bytes) seq dbid e is = record { bytes = bytes; is = refl; size = judged_size (header_fault seq bytes) dbid (header_in bytes) (length bytes) e is }
 
 -- a registered log of the archive is there, as long as it was
-pub its_bytes : (logs : ℕ → Option (List ℕ)) (e : LogEntry) → IsOf logs e → HasBytes (logs e.head.seq) e
+pub its_bytes : (logs : ℕ → Option (List ℕ)) (e : LogEntry) → IsToldBy logs e → HasBytes (logs e.head.seq) e
 its_bytes logs e of = bytes_by (logs e.head.seq) e.head.seq e.head.dbid e of
 
 -- ---- a log that is not there

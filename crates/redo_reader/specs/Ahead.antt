@@ -11,7 +11,7 @@ use Rattle.rl_value.specs.declared.verdict.Stop.TheVariants.{Drained, Gap, Malfo
 use Rattle.redo_vec.specs.declared.redo_rec.RedoRec.{RedoRec}
 use Rattle.redo_vec.specs.Reading.{Fault, record_at}
 use Rattle.redo_spec.specs.declared.header.Header.{Header}
-use Rattle.redo_spec.specs.Redo.{Redo, ended}
+use Rattle.redo_spec.specs.Redo.{Redo, redo_ended_by}
 use Rattle.redo_wire.specs.declared.raw.Raw.{Raw}
 use Rattle.redo_wire.specs.declared.cutting.LogPlace.{LogPlace}
 use Rattle.redo_wire.specs.Stream.{Cut, cut_off}
@@ -73,21 +73,21 @@ ahead logs registry p = ahead_in logs p.seq (in_its_log p) (entries_from p.seq r
 -- ---- the same, decoded
 
 -- a record that decodes, and then the later ones; behind this many records another is malformed
-abbrev pub decoded_or : Header → Result RedoRec Fault → ℕ → Redo → Redo
-decoded_or h (Err f) rec later = ended (Malformed (rec + 1) (Vector f.fault f.place))
-decoded_or h (Ok r) rec later = record { entries = (h, r) ∷ later.entries; stop = later.stop }
+abbrev pub redo_with : Header → Result RedoRec Fault → ℕ → Redo → Redo
+redo_with h (Err f) rec later = redo_ended_by (Malformed (rec + 1) (Vector f.fault f.place))
+redo_with h (Ok r) rec later = record { entries = (h, r) ∷ later.entries; stop = later.stop }
 
-abbrev pub decoded_raws : ℕ → List Raw → Stop → Redo
-decoded_raws rec [] stop = ended stop
-decoded_raws rec (raw ∷ raws) stop = decoded_or raw.head (record_at raw.bytes) rec (decoded_raws (rec + 1) raws stop)
+abbrev pub redo_of_raws : ℕ → List Raw → Stop → Redo
+redo_of_raws rec [] stop = redo_ended_by stop
+redo_of_raws rec (raw ∷ raws) stop = redo_with raw.head (record_at raw.bytes) rec (redo_of_raws (rec + 1) raws stop)
 
 -- what is ahead behind this many records, decoded up to the first record that does not decode
-abbrev pub decoded : ℕ → Ahead → Redo
-decoded rec a = decoded_raws rec a.raws a.stop
+abbrev pub redo_of : ℕ → Ahead → Redo
+redo_of rec a = redo_of_raws rec a.raws a.stop
 
 -- the redo ahead of a place
 abbrev pub redo_ahead : (ℕ → Option (List ℕ)) → List LogEntry → Place → Redo
-redo_ahead logs registry p = decoded p.rec (ahead logs registry p)
+redo_ahead logs registry p = redo_of p.rec (ahead logs registry p)
 
 -- the bytes of registered logs, each with its sequence
 abbrev pub told_logs : (ℕ → Option (List ℕ)) → List LogEntry → List (ℕ × List ℕ)

@@ -35,11 +35,11 @@ clamped_place registry p = record {
 }
 
 -- the place behind a record
-abbrev pub behind : Raw → Place
-behind raw = record { seq = raw.head.seq; at = raw.end; done = raw.done; rec = raw.rec }
+abbrev pub place_after_raw : Raw → Place
+place_after_raw raw = record { seq = raw.head.seq; at = raw.end; done = raw.done; rec = raw.rec }
 
 -- a record that comes next behind this place; the cutter takes its bytes as one record
-pub record IsNext (p : Place) (raw : Raw) : Type 0 where
+pub record IsNextRaw (p : Place) (raw : Raw) : Type 0 where
   pub rec : raw.rec ≡ p.rec + 1
   pub room : raw.rec < 2 ^ 63
   pub whole : first_record raw.bytes ≡ Ok (raw.bytes, [])
@@ -51,7 +51,7 @@ FirstWaiting (raw ∷ raws) after uncalled result = (result ≡ Ok (cuts.Raw raw
 
 -- a cut leads from one place to the next
 abbrev pub LeadsOn : Cut → Place → Place → Type 0
-LeadsOn (cuts.Raw raw) old new = IsNext old raw × (new ≡ behind raw)
+LeadsOn (cuts.Raw raw) old new = IsNextRaw old raw × (new ≡ place_after_raw raw)
 LeadsOn (cuts.End stop) old new = new ≡ old
 
 -- where records wait the next of them is given and the others wait on, without a call of the archive
@@ -64,6 +64,6 @@ told_end (cuts.Raw raw) = None
 told_end (cuts.End stop) = Some stop
 
 -- what was ahead is what the cut gives, and then what is ahead now; an end stays
-abbrev pub Gives : Cut → Ahead → Ahead → Type 0
-Gives (cuts.Raw raw) old new = old ≡ raws_before (raw ∷ []) new
-Gives (cuts.End stop) old new = old ≡ nothing_but stop
+abbrev pub GivesNext : Cut → Ahead → Ahead → Type 0
+GivesNext (cuts.Raw raw) old new = old ≡ raws_before (raw ∷ []) new
+GivesNext (cuts.End stop) old new = old ≡ nothing_but stop

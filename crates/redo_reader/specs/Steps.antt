@@ -9,10 +9,10 @@ use Rattle.rl_value.specs.declared.verdict.Stop.TheVariants as stops
 use Rattle.rl_ports.specs.Faults.{Told}
 use Rattle.redo_wire.specs.declared.raw.Raw.{Raw}
 use Rattle.redo_wire.specs.declared.cutting.LogPlace.{LogPlace}
-use Rattle.redo_wire.specs.Stream.{Cut as LogCut, Stream, behind as past, begun, cut_off, end_fault, fed, given, joined, nothing}
+use Rattle.redo_wire.specs.Stream.{Cut as LogCut, Stream, log_place_behind as past, stream_at, cut_off, end_fault, stream_after, cut_of_piece, joined_cut, empty_cut}
 use Rattle.redo_wire.specs.Records.{AreFramed}
 use Rattle.log_registry.specs.declared.entry.LogEntry.{LogEntry}
-use Rattle.log_registry.specs.Registered.{AreOf, count_of, entry_of, entries_from}
+use Rattle.log_registry.specs.Registered.{AreToldBy, count_of, entry_of, entries_from}
 use Rattle.redo_reader.specs.declared.place.Place.{Place}
 use Rattle.redo_reader.specs.declared.progress.OpenLog.{OpenLog}
 use Rattle.redo_reader.specs.declared.progress.RedoEnd.{RedoEnd}
@@ -39,9 +39,9 @@ abbrev pub with_raws : List Raw → Option CutFault → LogCut → LogCut
 with_raws raws cause c = record { raws = raws ++ c.raws; place = c.place; left = c.left; cause = option_or cause c.cause }
 
 -- the place behind records that follow one another
-abbrev pub behind_all : LogPlace → List Raw → LogPlace
-behind_all p [] = p
-behind_all p (raw ∷ raws) = behind_all (past p raw.bytes) raws
+abbrev pub log_place_behind_all : LogPlace → List Raw → LogPlace
+log_place_behind_all p [] = p
+log_place_behind_all p (raw ∷ raws) = log_place_behind_all (past p raw.bytes) raws
 
 -- ---- between two logs
 
@@ -55,7 +55,7 @@ pub record IsClosed (registry : List LogEntry) (front : Place) (waiting : List R
 -- ---- in a log
 
 -- the log that is open is the one of the front; records wait from there on, and the cutter stands behind them
-pub record IsOpen (registry : List LogEntry) (front : Place) (waiting : List Raw) (log : OpenLog) : Type 0 where
+pub record IsOpenLog (registry : List LogEntry) (front : Place) (waiting : List Raw) (log : OpenLog) : Type 0 where
   pub entry : LogEntry
   pub later : List LogEntry
   pub from : entries_from front.seq registry ≡ entry ∷ later
@@ -65,20 +65,20 @@ pub record IsOpen (registry : List LogEntry) (front : Place) (waiting : List Raw
   pub head : log.cutter.head ≡ entry.head
   pub size : log.length ≡ entry.length
   pub framed : AreFramed log.cutter.head (in_its_log front) waiting
-  pub place : log.cutter.place ≡ behind_all (in_its_log front) waiting
+  pub place : log.cutter.place ≡ log_place_behind_all (in_its_log front) waiting
   pub fault_told : log.cutter.fault_told ≡ is_some log.cause
-  pub settled : log.cause ≡ None → given log.cutter [] ≡ nothing log.cutter
+  pub settled : log.cause ≡ None → cut_of_piece log.cutter [] ≡ empty_cut log.cutter
   pub done : front.done ≤ entry.head.count
   pub room : front.rec + (entry.head.count - front.done) + count_of later < 2 ^ 63
 
 abbrev pub IsAt : List LogEntry → Place → List Raw → Option OpenLog → Type 0
 IsAt registry front waiting None = IsClosed registry front waiting
-IsAt registry front waiting (Some log) = IsOpen registry front waiting log
+IsAt registry front waiting (Some log) = IsOpenLog registry front waiting log
 
 -- what the log with these bytes gives from the front on: what waits, and then what the cutter gives
 abbrev pub Continues : Place → List Raw → OpenLog → List ℕ → Type 0
 Continues front waiting log bytes =
-    cut_off log.cutter.head (log.cutter.head.count - front.done) (in_its_log front) (drop front.at bytes) ≡ with_raws waiting log.cause (given log.cutter (drop log.offset bytes))
+    cut_off log.cutter.head (log.cutter.head.count - front.done) (in_its_log front) (drop front.at bytes) ≡ with_raws waiting log.cause (cut_of_piece log.cutter (drop log.offset bytes))
 
 abbrev pub ContinuesIn : Place → List Raw → OpenLog → Option (List ℕ) → Type 0
 ContinuesIn front waiting log None = ⊤
@@ -96,11 +96,11 @@ pub record IsInStep (logs : ℕ → Option (List ℕ)) (registry : List LogEntry
 pub record IsReading (known : Option (ℕ → Option (List ℕ))) (registry : List LogEntry) (place front : Place) (waiting : List Raw) (log : Option OpenLog) : Type 0 where
   pub rec : front.rec ≡ place.rec
   pub at : IsAt registry front waiting log
-  pub told : Told known (λ logs. AreOf logs registry → IsInStep logs registry place front waiting log)
+  pub told : Told known (λ logs. AreToldBy logs registry → IsInStep logs registry place front waiting log)
 
 -- the same where an end was told: nothing else is ahead
 abbrev pub EndsAt : Option (ℕ → Option (List ℕ)) → List LogEntry → Place → RedoEnd → Type 0
-EndsAt known registry place e = Told known (λ logs. AreOf logs registry → ahead logs registry place ≡ nothing_but (stop_of e))
+EndsAt known registry place e = Told known (λ logs. AreToldBy logs registry → ahead logs registry place ≡ nothing_but (stop_of e))
 
 pub record IsSide (known : Option (ℕ → Option (List ℕ))) (registry : List LogEntry) (place front : Place) (waiting : List Raw) (log : Option OpenLog) (stop : Option RedoEnd) : Type 0 where
   pub reading : IsReading known registry place front waiting log
@@ -109,8 +109,8 @@ pub record IsSide (known : Option (ℕ → Option (List ℕ))) (registry : List 
 -- ---- a log is begun
 
 -- a log that is opened at this place in it
-abbrev pub opened : LogEntry → Place → OpenLog
-opened e front = record { cutter = begun e.head (front.rec + 1) front.at front.done; length = e.length; offset = front.at; cause = None }
+abbrev pub open_log_at : LogEntry → Place → OpenLog
+open_log_at e front = record { cutter = stream_at e.head (front.rec + 1) front.at front.done; length = e.length; offset = front.at; cause = None }
 
 -- the log of the front, or the end
 pub record IsBegun (registry : List LogEntry) (front : Place) (log : OpenLog) : Type 0 where
@@ -120,7 +120,7 @@ pub record IsBegun (registry : List LogEntry) (front : Place) (log : OpenLog) : 
   pub seq : entry.head.seq ≡ front.seq
   pub behind : entries_from (front.seq + 1) registry ≡ later
   pub last : front.seq + 1 ≡ 2 ^ 32 → later ≡ []
-  pub opens : log ≡ opened entry front
+  pub opens : log ≡ open_log_at entry front
 
 abbrev pub BeginsBy : List LogEntry → Place → Begun → Type 0
 BeginsBy registry front (begins.Log log) = IsBegun registry front log
@@ -130,13 +130,13 @@ BeginsBy registry front (begins.End e) = (logs : ℕ → Option (List ℕ)) → 
 
 -- whatever follows this piece is given by the stream behind it
 abbrev pub GoesOn : Stream → List ℕ → Type 0
-GoesOn s piece = (rest : List ℕ) → given s (piece ++ rest) ≡ joined (given s piece) (given (fed s piece) rest)
+GoesOn s piece = (rest : List ℕ) → cut_of_piece s (piece ++ rest) ≡ joined_cut (cut_of_piece s piece) (cut_of_piece (stream_after s piece) rest)
 
 -- the log behind this piece, which gave these records
 pub record IsFed (old new : OpenLog) (piece : List ℕ) (raws : List Raw) : Type 0 where
-  pub gave : raws ≡ (given old.cutter piece).raws
-  pub cause : new.cause ≡ (given old.cutter piece).cause
-  pub cutter : new.cutter ≡ fed old.cutter piece
+  pub gave : raws ≡ (cut_of_piece old.cutter piece).raws
+  pub cause : new.cause ≡ (cut_of_piece old.cutter piece).cause
+  pub cutter : new.cutter ≡ stream_after old.cutter piece
   pub on : GoesOn old.cutter piece
   pub framed : AreFramed old.cutter.head old.cutter.place raws
   pub offset : new.offset ≡ old.offset + length piece
@@ -161,14 +161,14 @@ pub record IsCutBy (known : Option (ℕ → Option (List ℕ))) (seq : ℕ) (old
   pub told : Told known (λ logs. IsPieceOf (logs seq) old.offset piece)
 
 -- the log's records are at their end, with the cutter's fault or that of the end of its bytes
-pub record IsEnd (known : Option (ℕ → Option (List ℕ))) (seq : ℕ) (old new : OpenLog) (found : Option CutFault) : Type 0 where
+pub record IsLogEnd (known : Option (ℕ → Option (List ℕ))) (seq : ℕ) (old new : OpenLog) (found : Option CutFault) : Type 0 where
   pub same : new ≡ old
   pub cause : option_or old.cause (end_fault old.cutter) ≡ found
   pub told : Told known (λ logs. old.cause ≡ None → IsAtEnd (logs seq) old)
 
 abbrev pub Shows : Option (ℕ → Option (List ℕ)) → ℕ → OpenLog → OpenLog → Look → Type 0
 Shows known seq old new (looks.Raws raws) = IsCutBy known seq old new raws.items
-Shows known seq old new (looks.LogEnd fault) = IsEnd known seq old new fault
+Shows known seq old new (looks.LogEnd fault) = IsLogEnd known seq old new fault
 
 -- ---- how near the end is
 

@@ -2,11 +2,11 @@
 ghost use Rattle.std.specs.Prelude.{◌≡◌, ◌≢◌, ◌+◌, ◌-◌, ◌^◌, ◌<◌, ◌≤◌, [], None, Some, IfOk, IfSome, OnErr, Err, IsErrOf, length};
 ghost use Rattle.std.specs.Vec.Iter.{into_iter_items};
 ghost use Rattle.rl_ports.specs.Faults.{NoneCounted, Told, Rose};
-ghost use Rattle.log_registry.specs.Registered.{AreOf};
+ghost use Rattle.log_registry.specs.Registered.{AreToldBy};
 ghost use Rattle.redo_reader.specs.declared.cut.CutError.TheVariants.{ArchiveFault as ArchiveFaulted};
 ghost use Rattle.redo_reader.specs.Ahead.{ahead};
-ghost use Rattle.redo_reader.specs.Reading.{LeadsOn, Gives};
-ghost use Rattle.redo_reader.specs.Steps.{IsClosed, BeginsBy, IsReading, EndsAt, opened, distance, cut_of, FirstFound};
+ghost use Rattle.redo_reader.specs.Reading.{LeadsOn, GivesNext};
+ghost use Rattle.redo_reader.specs.Steps.{IsClosed, BeginsBy, IsReading, EndsAt, open_log_at, distance, cut_of, FirstFound};
 
 use crate::blocks::look_on;
 use crate::cut::CutError;
@@ -22,7 +22,7 @@ fn open_log(alloc: Global, entry: &LogEntry, front: Place) -> OpenLog
     requires done { front.done ≤ entry.now.head.count }
     requires at { front.at < 2 ^ 62 }
     requires room { front.rec + (entry.now.head.count - front.done) < 2 ^ 63 }
-    ensures { result ≡ opened entry.now front }
+    ensures { result ≡ open_log_at entry.now front }
 {
     OpenLog {
         cutter: Cutter::new(alloc, entry.head, front.rec + 1, front.at, front.done),
@@ -106,8 +106,8 @@ pub(crate) fn advance<A: Archive>(
 ) -> Result<Found, CutError>
     requires block { 0 < length reading.old.block.items }
     requires stands { IsReading (A.logs archive.old) registry.now reading.old.place reading.old.front (into_iter_items reading.old.waiting) reading.old.log }
-    ensures exact { Told (A.logs archive.old) (λ logs. AreOf logs registry.now →
-        IfOk result (λ found. Gives (cut_of found) (ahead logs registry.now reading.old.place) (ahead logs registry.now reading.new.place))) }
+    ensures exact { Told (A.logs archive.old) (λ logs. AreToldBy logs registry.now →
+        IfOk result (λ found. GivesNext (cut_of found) (ahead logs registry.now reading.old.place) (ahead logs registry.now reading.new.place))) }
     ensures next { IfOk result (λ found. LeadsOn (cut_of found) reading.old.place reading.new.place) }
     ensures stands { IsReading (A.logs archive.new) registry.now reading.new.place reading.new.front (into_iter_items reading.new.waiting) reading.new.log }
     ensures block { 0 < length reading.new.block.items }

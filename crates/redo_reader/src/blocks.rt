@@ -1,7 +1,7 @@
 //! Reads a block of the open log, and cuts it into records.
 ghost use Rattle.std.specs.Prelude.{◌≡◌, ◌≢◌, ◌+◌, ◌<◌, ◌≤◌, None, false, length, is_some, IfOk, OnOk, OnErr, Err, IsErrOf};
 ghost use Rattle.rl_ports.specs.Faults.{NoneCounted, Told, Rose, ReadsFrom};
-ghost use Rattle.redo_wire.specs.Stream.{given, nothing};
+ghost use Rattle.redo_wire.specs.Stream.{cut_of_piece, empty_cut};
 ghost use Rattle.redo_reader.specs.declared.cut.CutError.TheVariants.{ArchiveFault as ArchiveFaulted};
 ghost use Rattle.redo_reader.specs.Steps.{IsFed, Shows};
 

@@ -1,6 +1,6 @@
 //! How far the reading has come: the log that is read, and the records that are cut and not yet given.
 ghost use Rattle.std.specs.Prelude.{◌≡◌};
-ghost use Rattle.redo_reader.specs.Reading.{behind};
+ghost use Rattle.redo_reader.specs.Reading.{place_after_raw};
 ghost use Rattle.redo_reader.specs.Steps.{stop_of};
 
 use crate::place::Place;
@@ -79,7 +79,7 @@ pub(crate) fn told_stop(end: RedoEnd) -> Stop
 
 /// The place behind a record.
 pub(crate) fn place_behind(raw: &Raw) -> Place
-    ensures { result ≡ behind raw.now }
+    ensures { result ≡ place_after_raw raw.now }
 {
     Place {
         seq: raw.head.seq,

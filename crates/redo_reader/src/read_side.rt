@@ -1,9 +1,9 @@
 //! The reading side: an archive, the registered logs, and how far they are read.
 ghost use Rattle.std.specs.Prelude.{◌≡◌, ◌≢◌, [], ◌≤◌, ◌<◌, ◌+◌, ◌^◌, IfOk, OnErr, IfErr, IfSome, IsErrOf, None, Ok, Err};
 ghost use Rattle.rl_ports.specs.Faults.{NoneCounted, Told, Rose};
-ghost use Rattle.log_registry.specs.Registered.{AreOf, count_of, entry_of};
+ghost use Rattle.log_registry.specs.Registered.{AreToldBy, count_of, entry_of};
 ghost use Rattle.redo_reader.specs.Ahead.{ahead};
-ghost use Rattle.redo_reader.specs.Reading.{done_within, clamped_place, LeadsOn, told_end, Gives, GivesWaiting};
+ghost use Rattle.redo_reader.specs.Reading.{done_within, clamped_place, LeadsOn, told_end, GivesNext, GivesWaiting};
 ghost use Rattle.redo_reader.specs.declared.cut.CutError.TheVariants.{ArchiveFault as ArchiveFaulted};
 ghost use Rattle.redo_reader.specs.declared.cut.Cut.TheVariants.{End};
 
@@ -116,8 +116,8 @@ impl<A: Archive> ReadSide<A> {
     /// The next record of the redo, or what ends it, and that again for good. It reads blocks of 65,536 bytes.
     pub fn cut(&mut self) -> Result<Cut, CutError>
         // The records that are ahead in order, and then what ends them, where the registered logs are the archive's.
-        ensures exact { Told (A.logs self.old.archive) (λ logs. AreOf logs self.old.registry →
-            IfOk result (λ cut. Gives cut (ahead logs self.old.registry self.old.place) (ahead logs self.new.registry self.new.place))) }
+        ensures exact { Told (A.logs self.old.archive) (λ logs. AreToldBy logs self.old.registry →
+            IfOk result (λ cut. GivesNext cut (ahead logs self.old.registry self.old.place) (ahead logs self.new.registry self.new.place))) }
         ensures next { IfOk result (λ cut. LeadsOn cut self.old.place self.new.place) }
         // An end is told for good, by an archive that tells nothing too.
         ensures told { IfOk result (λ cut. self.new.stop ≡ told_end cut) }

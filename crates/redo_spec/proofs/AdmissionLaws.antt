@@ -4,7 +4,7 @@ use Rattle.rl_value.specs.declared.cause.LawFault.{LawFault}
 use Rattle.redo_vec.specs.declared.vector.Vector.{Vector}
 use Rattle.redo_spec.specs.Dictionary.{Dictionary}
 use Rattle.redo_spec.specs.History.{Entry, History, history_after, history_at}
-use Rattle.redo_spec.specs.Standing.{Standing, standing_after, standing_after_all, entered, record_after, standing_at}
+use Rattle.redo_spec.specs.Standing.{Standing, standing_after, standing_after_all, standing_at_record, record_after, standing_at}
 use Rattle.redo_spec.specs.Law.{Admitted, record_fault, dictionary_left, admitted_or, admission, IsFirstBad}
 
 -- ---- one record
@@ -14,7 +14,7 @@ rec_after_all vec [] s = refl
 rec_after_all vec (v ∷ vs) s = rec_after_all (vec + 1) vs (standing_after vec v s)
 
 pub rec_after_record : (e : Entry) (s : Standing) → (record_after e s).rec ≡ s.rec + 1
-rec_after_record (h, r) s = rec_after_all 1 r.vectors (entered (h, r) s)
+rec_after_record (h, r) s = rec_after_all 1 r.vectors (standing_at_record (h, r) s)
 
 pub fault_first : (o : Option LawFault) (left : Dictionary) (s : Standing) (h : History) (later : Admitted) → (admitted_or o left s h later).fault ≡ None → o ≡ None
 fault_first None left s h later e = refl

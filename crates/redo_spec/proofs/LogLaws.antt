@@ -21,7 +21,7 @@ use Rattle.redo_vec.specs.Reading.{record_at}
 use Rattle.redo_spec.specs.declared.header.Header.{Header}
 use Rattle.redo_spec.specs.Log.{Log, IsHeader, IsLog, header_bytes, log_bytes}
 use Rattle.redo_spec.specs.LogHeader.{header_in, header_fault}
-use Rattle.redo_spec.specs.Redo.{cut_or, decoded_or, with_entry, records_in, records_of, entries_of, after_records, ended, redo_from, headed, fold_of_log}
+use Rattle.redo_spec.specs.Redo.{records_of_cut, decoded_or, with_entry, records_in, records_of, entries_of, redo_after_records, redo_ended_by, redo_from, fold_of_header, fold_of_log}
 use Rattle.redo_spec.specs.Fold.{fold_of_redo}
 
 -- ---- one record at the front
@@ -101,7 +101,7 @@ records_read : SpelledIsRead → (h : Header) (rs : List RedoRec) → AllByRecur
 records_read read h [] ok = refl
 records_read read h (r ∷ rs) ok =
     let later = flat_map record_bytes rs in
-    ap (λ o. cut_or o (λ cut rest. decoded_or h (record_at cut) (records_in h (length rs) rest))) (cut_first r later ok.0)
+    ap (λ o. records_of_cut o (λ cut rest. decoded_or h (record_at cut) (records_in h (length rs) rest))) (cut_first r later ok.0)
     ∙ ap (λ o. decoded_or h o (records_in h (length rs) later)) (read r ok.0)
     ∙ ap (with_entry (h, r)) (records_read read h rs ok.1)
 
@@ -148,14 +148,14 @@ log_read read l ok =
 
 redo_read : SpelledIsRead → (seq : ℕ) (l : Log) → IsLog l → redo_from seq 0 ((seq, log_bytes l) ∷ []) ≡ record { entries = entries_of l; stop = Drained }
 redo_read read seq l ok =
-    ap (λ b. cond b (after_records 0 (records_of (log_bytes l)) (ended Drained)) (ended (Gap seq (seq - 1)))) (same_number seq)
-    ∙ ap (λ r. after_records 0 r (ended Drained)) (log_read read l ok)
+    ap (λ b. cond b (redo_after_records 0 (records_of (log_bytes l)) (redo_ended_by Drained)) (redo_ended_by (Gap seq (seq - 1)))) (same_number seq)
+    ∙ ap (λ r. redo_after_records 0 r (redo_ended_by Drained)) (log_read read l ok)
     ∙ ap (λ es. record { entries = es; stop = Drained }) (append-nil (entries_of l))
 
 -- The fold of a spelled log is the fold of its records.
 pub log_is_read : SpelledIsRead → (seq : ℕ) (l : Log) → IsLog l → header_fault seq (log_bytes l) ≡ None →
     fold_of_log seq (Some (log_bytes l)) ≡ fold_of_redo seq (l.head.first - 1) (entries_of l) Drained
 log_is_read read seq l ok fits =
-    ap (λ o. headed o seq (log_bytes l)) fits
+    ap (λ o. fold_of_header o seq (log_bytes l)) fits
     ∙ ap (λ redo. fold_of_redo seq ((header_in (log_bytes l)).first - 1) redo.entries redo.stop) (redo_read read seq l ok)
     ∙ ap (λ h. fold_of_redo seq (h.first - 1) (entries_of l) Drained) (header_again l.head (flat_map record_bytes l.records) ok.head)

@@ -20,7 +20,7 @@ use Rattle.redo_spec.specs.declared.header.Header.{Header}
 use Rattle.redo_spec.specs.History.{Entry}
 use Rattle.redo_spec.specs.Log.{IsHeader, IsSpelled, header_bytes}
 use Rattle.redo_spec.specs.LogHeader.{header_in, header_fault}
-use Rattle.redo_spec.specs.Redo.{cut_or, decoded_or, records_in, records_of}
+use Rattle.redo_spec.specs.Redo.{records_of_cut, decoded_or, records_in, records_of}
 use Rattle.redo_spec.proofs.LogLaws.{cut_by}
 
 -- ---- the law of `redo_vec` by which a read record is spelled
@@ -244,9 +244,9 @@ decoded_sound law h count bytes cut rest (Ok r) is front e more =
     record { each = (law.fits cut r are front.whole is, later.each); parts = front.parts ∙ (λ i. spelled i ++ after i); counted = ap suc later.counted }
 
 cut_sound : ReadIsSpelled → (h : Header) (count : ℕ) (bytes : List ℕ) (found : Result (List ℕ × List ℕ) CutFault) → first_record bytes ≡ found → IsBytes bytes →
-    (cut_or found (λ cut rest. decoded_or h (record_at cut) (records_in h count rest))).cause ≡ None →
+    (records_of_cut found (λ cut rest. decoded_or h (record_at cut) (records_in h count rest))).cause ≡ None →
     ((rest : List ℕ) → IsBytes rest → (records_in h count rest).cause ≡ None → AreSpelled count rest (records_in h count rest).entries) →
-    AreSpelled (suc count) bytes (cut_or found (λ cut rest. decoded_or h (record_at cut) (records_in h count rest))).entries
+    AreSpelled (suc count) bytes (records_of_cut found (λ cut rest. decoded_or h (record_at cut) (records_in h count rest))).entries
 cut_sound law h count bytes (Err fault) is fits e more = absurd (cc)
 cut_sound law h count bytes (Ok (cut, rest)) is fits e more =
     let front = front_is bytes cut rest fits is in

@@ -10,8 +10,8 @@ use Rattle.rl_value.specs.declared.xid.Xid.{Xid}
 use Rattle.redo_vec.specs.declared.vector.Vector.{Vector}
 use Rattle.redo_vec.specs.declared.vector.Vector.TheVariants.{Start, Change as OfChange, Undo, Commit, Rollback, Table, DictEnd}
 use Rattle.redo_spec.specs.declared.header.Header.{Header}
-use Rattle.redo_spec.specs.History.{Entry, Txn, Committed, History, same_xid, of_xid, but_xid, has_xid, with_xid, changed, undone, known_by_commit, ended_by, after_vector, after_vectors, history_after}
-use Rattle.redo_spec.specs.Standing.{Standing, OpenTxn, is_open, open_txn, standing_after, standing_after_all, entered, record_after}
+use Rattle.redo_spec.specs.History.{Entry, Txn, Committed, History, same_xid, of_xid, but_xid, has_xid, with_xid, txn_after_change, txn_after_undo, txn_known_by_commit, txns_ended_by, after_vector, after_vectors, history_after}
+use Rattle.redo_spec.specs.Standing.{Standing, OpenTxn, is_open, open_txn, standing_after, standing_after_all, standing_at_record, record_after}
 use Rattle.redo_spec.specs.Law.{dictionary_fault, open_fault, own_fault, vector_fault, vectors_fault, whole_fault, record_fault}
 use Rattle.redo_spec.proofs.ListLaws.{filter_push, filter_swap, filter_fewer, filter_head, any_map, any_left}
 use Rattle.std.proofs.lemmas.List.Elements.{filter-append}
@@ -21,7 +21,7 @@ use Rattle.redo_spec.proofs.StandingLaws.{Agrees, agrees_after, filter_seen, non
 
 -- a commit as a run sees it that does not know the transactions begun up to record q
 abbrev pub seen : ℕ → Committed → Committed
-seen q c = cond (nat_lt q c.txn.start.rec) c (record { txn = known_by_commit c.at c.txn.xid; at = c.at; scn = c.scn })
+seen q c = cond (nat_lt q c.txn.start.rec) c (record { txn = txn_known_by_commit c.at c.txn.xid; at = c.at; scn = c.scn })
 
 -- the history as it sees it, behind b commits
 abbrev pub history_behind : ℕ → ℕ → History → History
@@ -94,8 +94,8 @@ one_after scn at (Start y) s h a fits x one =
     let moved : of_xid x (h.active ++ new ∷ []) ≡ of_xid x h.active ++ of_xid x (new ∷ []) = filter-append (λ t. same_xid t.xid x) h.active (new ∷ []) in
     let long : length (of_xid x (h.active ++ new ∷ [])) ≡ length (of_xid x h.active ++ of_xid x (new ∷ [])) = ap (λ (us : List Txn). length us) moved in
     omega (arith, long, started_one at x y h.active (same_xid y x) refl (sym (open_agrees s h y a) ∙ no_fault _ _ fits) one)
-one_after scn at (OfChange c) s h a fits x one = with_one x c.xid (changed (at, c)) (λ t. refl) h.active one
-one_after scn at (Undo y) s h a fits x one = with_one x y undone (λ t. refl) h.active one
+one_after scn at (OfChange c) s h a fits x one = with_one x c.xid (txn_after_change (at, c)) (λ t. refl) h.active one
+one_after scn at (Undo y) s h a fits x one = with_one x y txn_after_undo (λ t. refl) h.active one
 one_after scn at (Commit y) s h a fits x one = but_one x y h.active one
 one_after scn at (Rollback y) s h a fits x one = but_one x y h.active one
 one_after scn at (Table t) s h a fits x one = one
@@ -127,12 +127,12 @@ sound_after_all head vec (v ∷ vs) s h sound fits =
     (sound_after head vec v s h sound (none_first (vector_fault head s v) _ fits))
     (none_second (vector_fault head s v) _ fits)
 
-sound_entered : (e : Entry) (s : Standing) (h : History) → Sound s h → Sound (entered e s) h
+sound_entered : (e : Entry) (s : Standing) (h : History) → Sound s h → Sound (standing_at_record e s) h
 sound_entered (head, r) s h sound = record { known = sound.known; agrees = record { same = sound.agrees.same; none = sound.agrees.none }; before = sound.before; one = sound.one }
 
 pub sound_after_record : (e : Entry) (s : Standing) (h : History) → Sound s h → record_fault s e ≡ None → Sound (record_after e s) (history_after (s.rec + 1) e h)
 sound_after_record (head, r) s h sound fits =
-    sound_after_all head 1 r.vectors (entered (head, r) s) h (sound_entered (head, r) s h sound) (none_second (whole_fault s (head, r)) _ fits)
+    sound_after_all head 1 r.vectors (standing_at_record (head, r) s) h (sound_entered (head, r) s h sound) (none_second (whole_fault s (head, r)) _ fits)
 
 -- ---- one more vector
 
@@ -146,7 +146,7 @@ made_more scn at (Start y) h b few = few
 made_more scn at (OfChange c) h b few = few
 made_more scn at (Undo y) h b few = few
 made_more scn at (Commit y) h b few =
-    omega (arith, few, length-append h.commits.made (map (committed at scn) (ended_by at y h.active)))
+    omega (arith, few, length-append h.commits.made (map (committed at scn) (txns_ended_by at y h.active)))
 made_more scn at (Rollback y) h b few = few
 made_more scn at (Table t) h b few = few
 made_more scn at DictEnd h b few = few
@@ -161,13 +161,13 @@ with_xid_behind q f same x ts =
     sym (filter_seen (λ t. cond (same_xid t.xid x) (f t) t) (λ t. nat_lt q t.start.rec) (λ t. nat_lt q t.start.rec) (λ t. txn_start q f same (same_xid t.xid x) t) ts)
 
 one_case : (at : Pos) (scn : ℕ) (x : Xid) (t : Txn) (b : Bool) → x ≡ t.xid →
-    map (committed at scn) (cond (not (is_empty (cond b (t ∷ []) []))) (cond b (t ∷ []) []) (known_by_commit at x ∷ []))
-    ≡ cond b (committed at scn t) (record { txn = known_by_commit at t.xid; at = at; scn = scn }) ∷ []
+    map (committed at scn) (cond (not (is_empty (cond b (t ∷ []) []))) (cond b (t ∷ []) []) (txn_known_by_commit at x ∷ []))
+    ≡ cond b (committed at scn t) (record { txn = txn_known_by_commit at t.xid; at = at; scn = scn }) ∷ []
 one_case at scn x t true same = refl
-one_case at scn x t false same = ap (λ (y : Xid). committed at scn (known_by_commit at y) ∷ []) same
+one_case at scn x t false same = ap (λ (y : Xid). committed at scn (txn_known_by_commit at y) ∷ []) same
 
 one_seen : (q : ℕ) (at : Pos) (scn : ℕ) (x : Xid) (ts : List Txn) → not (is_empty ts) ≡ true → length ts ≤ 1 → ((t : Txn) (us : List Txn) → ts ≡ t ∷ us → same_xid t.xid x ≡ true) →
-    map (committed at scn) (cond (not (is_empty (filter (λ t. nat_lt q t.start.rec) ts))) (filter (λ t. nat_lt q t.start.rec) ts) (known_by_commit at x ∷ []))
+    map (committed at scn) (cond (not (is_empty (filter (λ t. nat_lt q t.start.rec) ts))) (filter (λ t. nat_lt q t.start.rec) ts) (txn_known_by_commit at x ∷ []))
     ≡ map (seen q) (map (committed at scn) ts)
 one_seen q at scn x [] some one named = absurd (cc)
 one_seen q at scn x (t ∷ []) some one named = one_case at scn x t (nat_lt q t.start.rec) (sym (same_is t.xid x (named t [] refl)))
@@ -175,15 +175,15 @@ one_seen q at scn x (t ∷ u ∷ us) some one named = absurd (omega (arith, one)
 
 -- A commit of a transaction begun behind record q is seen whole, and of another the COMMIT alone.
 ended_behind : (q : ℕ) (at : Pos) (scn : ℕ) (x : Xid) (ts : List Txn) → has_xid x ts ≡ true → length (of_xid x ts) ≤ 1 →
-    map (committed at scn) (ended_by at x (filter (λ t. nat_lt q t.start.rec) ts)) ≡ map (seen q) (map (committed at scn) (ended_by at x ts))
+    map (committed at scn) (txns_ended_by at x (filter (λ t. nat_lt q t.start.rec) ts)) ≡ map (seen q) (map (committed at scn) (txns_ended_by at x ts))
 ended_behind q at scn x ts live one =
     let is : Txn → Bool = λ t. same_xid t.xid x in
     let late : Txn → Bool = λ t. nat_lt q t.start.rec in
     let left = any_left is (filter late ts) in
     let swapped = filter_swap is late ts in
-    let whole : ended_by at x ts ≡ of_xid x ts = ap (λ b. cond b (of_xid x ts) (known_by_commit at x ∷ [])) live in
-    ap (λ b. map (committed at scn) (cond b (of_xid x (filter late ts)) (known_by_commit at x ∷ []))) left
-    ∙ ap (λ (us : List Txn). map (committed at scn) (cond (not (is_empty us)) us (known_by_commit at x ∷ []))) swapped
+    let whole : txns_ended_by at x ts ≡ of_xid x ts = ap (λ b. cond b (of_xid x ts) (txn_known_by_commit at x ∷ [])) live in
+    ap (λ b. map (committed at scn) (cond b (of_xid x (filter late ts)) (txn_known_by_commit at x ∷ []))) left
+    ∙ ap (λ (us : List Txn). map (committed at scn) (cond (not (is_empty us)) us (txn_known_by_commit at x ∷ []))) swapped
     ∙ one_seen q at scn x (of_xid x ts) (sym (any_left is ts) ∙ live) one (λ t us e. filter_head is ts t us e)
     ∙ ap (λ (us : List Txn). map (seen q) (map (committed at scn) us)) (sym whole)
 
@@ -196,14 +196,14 @@ history_vector q b scn at (Start x) h past few one live =
     ap (λ (ts : List Txn). record (history_behind q b h) { active = ts })
     (sym (filter_push (λ t. nat_lt q t.start.rec) h.active (record { start = at; xid = x; survivors = [] }) (lt-ltb q at.rec past)))
 history_vector q b scn at (OfChange c) h past few one live =
-    ap (λ (ts : List Txn). record (history_behind q b h) { active = ts }) (with_xid_behind q (changed (at, c)) (λ t. refl) c.xid h.active)
+    ap (λ (ts : List Txn). record (history_behind q b h) { active = ts }) (with_xid_behind q (txn_after_change (at, c)) (λ t. refl) c.xid h.active)
 history_vector q b scn at (Undo x) h past few one live =
-    ap (λ (ts : List Txn). record (history_behind q b h) { active = ts }) (with_xid_behind q undone (λ t. refl) x h.active)
+    ap (λ (ts : List Txn). record (history_behind q b h) { active = ts }) (with_xid_behind q txn_after_undo (λ t. refl) x h.active)
 history_vector q b scn at (Commit x) h past few one live =
     let rest = filter_swap (λ t. not (same_xid t.xid x)) (λ t. nat_lt q t.start.rec) h.active in
     let made =
     ap (λ (cs : List Committed). map (seen q) (drop b h.commits.made) ++ cs) (ended_behind q at scn x h.active (live x refl) (one x))
-    ∙ sym (made_behind q b (map (committed at scn) (ended_by at x h.active)) h.commits.made few) in
+    ∙ sym (made_behind q b (map (committed at scn) (txns_ended_by at x h.active)) h.commits.made few) in
     λ i. record { active = rest i; commits = record { before = b; made = made i }; rolled_back = filter (λ t. nat_lt q t.start.rec) h.rolled_back }
 history_vector q b scn at (Rollback x) h past few one live =
     let late : Txn → Bool = λ t. nat_lt q t.start.rec in
@@ -245,4 +245,4 @@ pub history_behind_record : (q b : ℕ) (e : Entry) (s : Standing) (h : History)
     history_after (s.rec + 1) e (history_behind q b h) ≡ history_behind q b (history_after (s.rec + 1) e h)
 history_behind_record q b (head, r) s h past few sound fits =
     let none = sound.known in
-    history_vectors q b head 1 r.vectors (entered (head, r) s) h (omega (arith, past)) few (sound_entered (head, r) s h sound) (omega (arith, none)) (none_second (whole_fault s (head, r)) _ fits)
+    history_vectors q b head 1 r.vectors (standing_at_record (head, r) s) h (omega (arith, past)) few (sound_entered (head, r) s h sound) (omega (arith, none)) (none_second (whole_fault s (head, r)) _ fits)

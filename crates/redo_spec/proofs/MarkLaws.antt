@@ -6,7 +6,7 @@ use Rattle.std.proofs.lemmas.Bool.{lt-ltb, le-ltb, cases_lt}
 use Rattle.std.proofs.lemmas.List.{length-map, length-append, length-take, length-drop, take-append-drop, take-append-le, take-take, drop-take, drop-drop, drop_all, drop-map}
 use Rattle.rl_value.specs.declared.cause.LawFault.{LawFault}
 use Rattle.redo_spec.specs.Dictionary.{Dictionary}
-use Rattle.redo_spec.specs.History.{Entry, Txn, Committed, History, commits_after, commit_count, no_history, known_by_commit, history_after}
+use Rattle.redo_spec.specs.History.{Entry, Txn, Committed, History, commits_after, commit_count, no_history, txn_known_by_commit, history_after}
 use Rattle.redo_spec.specs.Standing.{Standing, OpenTxn, beginning, open_txn, open_txns, record_after}
 use Rattle.redo_spec.specs.Law.{Admitted, record_fault, dictionary_left, admitted_or, admission}
 use Rattle.redo_spec.specs.Mark.{MarkFits, front, from_mark, resumed}
@@ -312,7 +312,7 @@ clash q (suc n) zero (c ∷ cs) low few old late = absurd (omega (arith, low))
 clash q (suc n) (suc b) (c ∷ cs) low few old late = clash q n b cs (omega (arith, low)) (omega (arith, few)) old.1 late
 
 seen_late : (q : ℕ) (c : Committed) → q < c.txn.start.rec → seen q c ≡ c
-seen_late q c late = ap (λ x. cond x c (record { txn = known_by_commit c.at c.txn.xid; at = c.at; scn = c.scn })) (lt-ltb q c.txn.start.rec late)
+seen_late q c late = ap (λ x. cond x c (record { txn = txn_known_by_commit c.at c.txn.xid; at = c.at; scn = c.scn })) (lt-ltb q c.txn.start.rec late)
 
 commits_seen : (q b n : ℕ) (h : History) → Old q b h → h.commits.before ≡ 0 → Began (λ k. q < k) n h →
     commits_after (history_behind q b h).commits n ≡ commits_after h.commits n

@@ -7,7 +7,7 @@ use Rattle.rl_value.specs.declared.pos.Pos.{Pos}
 use Rattle.rl_value.specs.declared.xid.Xid.{Xid}
 use Rattle.redo_vec.specs.declared.vector.Vector.{Vector}
 use Rattle.redo_vec.specs.declared.vector.Vector.TheVariants.{Start, Change as OfChange, Undo, Commit, Rollback, Table, DictEnd}
-use Rattle.redo_spec.specs.History.{Entry, Txn, Committed, History, same_xid, has_xid, of_xid, with_xid, changed, undone, known_by_commit, ended_by, after_vector, after_vectors, history_after}
+use Rattle.redo_spec.specs.History.{Entry, Txn, Committed, History, same_xid, has_xid, of_xid, with_xid, txn_after_change, txn_after_undo, txn_known_by_commit, txns_ended_by, after_vector, after_vectors, history_after}
 use Rattle.redo_spec.proofs.ListLaws.{all_append, all_filter, all_map, all_drop, all_weaker}
 use Rattle.redo_spec.proofs.MarkHistories.{committed, made_more}
 
@@ -36,9 +36,9 @@ all_either : {A : Type 0} (P : A → Type 0) (b : Bool) (xs ys : List A) → All
 all_either P true xs ys a c = a
 all_either P false xs ys a c = c
 
-ended_began : (R : ℕ → Type 0) (at : Pos) (x : Xid) (ts : List Txn) → R at.rec → AllByRecursion (λ t. R t.start.rec) ts → AllByRecursion (λ t. R t.start.rec) (ended_by at x ts)
+ended_began : (R : ℕ → Type 0) (at : Pos) (x : Xid) (ts : List Txn) → R at.rec → AllByRecursion (λ t. R t.start.rec) ts → AllByRecursion (λ t. R t.start.rec) (txns_ended_by at x ts)
 ended_began R at x ts here a =
-    all_either (λ (t : Txn). R t.start.rec) (has_xid x ts) (of_xid x ts) (known_by_commit at x ∷ [])
+    all_either (λ (t : Txn). R t.start.rec) (has_xid x ts) (of_xid x ts) (txn_known_by_commit at x ∷ [])
     (all_filter (λ (t : Txn). R t.start.rec) (λ t. same_xid t.xid x) ts a) (here, tt)
 
 pub began_after : (R : ℕ → Type 0) (n scn : ℕ) (at : Pos) (v : Vector) (h : History) → R at.rec → Began R n h → Began R n (after_vector scn at v h)
@@ -46,10 +46,10 @@ began_after R n scn at (Start x) h here b = record {
   active = all_append (λ (t : Txn). R t.start.rec) h.active (record { start = at; xid = x; survivors = [] } ∷ []) b.active (here, tt);
   made = b.made;
 }
-began_after R n scn at (OfChange c) h here b = record { active = with_began R (changed (at, c)) (λ t. refl) c.xid h.active b.active; made = b.made }
-began_after R n scn at (Undo x) h here b = record { active = with_began R undone (λ t. refl) x h.active b.active; made = b.made }
+began_after R n scn at (OfChange c) h here b = record { active = with_began R (txn_after_change (at, c)) (λ t. refl) c.xid h.active b.active; made = b.made }
+began_after R n scn at (Undo x) h here b = record { active = with_began R txn_after_undo (λ t. refl) x h.active b.active; made = b.made }
 began_after R n scn at (Commit x) h here b =
-    let ended = ended_by at x h.active in
+    let ended = txns_ended_by at x h.active in
     record {
       active = all_filter (λ (t : Txn). R t.start.rec) (λ t. not (same_xid t.xid x)) h.active b.active;
       made = all_drop_append (λ (c : Committed). R c.txn.start.rec) n h.commits.made (map (committed at scn) ended) b.made
@@ -126,7 +126,7 @@ old_after q b scn at (Start x) h o = record { few = o.few; old = o.old }
 old_after q b scn at (OfChange c) h o = record { few = o.few; old = o.old }
 old_after q b scn at (Undo x) h o = record { few = o.few; old = o.old }
 old_after q b scn at (Commit x) h o =
-    let same = take-append-le b h.commits.made (map (committed at scn) (ended_by at x h.active)) o.few in
+    let same = take-append-le b h.commits.made (map (committed at scn) (txns_ended_by at x h.active)) o.few in
     record {
       few = made_more scn at (Commit x) h b o.few;
       old = subst (λ (cs : List Committed). AllByRecursion (λ c. c.txn.start.rec ≤ q) cs) (sym same) o.old;

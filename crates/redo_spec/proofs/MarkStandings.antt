@@ -20,7 +20,7 @@ use Rattle.redo_spec.specs.declared.header.Header.{Header}
 use Rattle.redo_spec.specs.ChangeForm.{change_fault}
 use Rattle.redo_spec.specs.ConflictKeys.{conflict_keys}
 use Rattle.redo_spec.specs.History.{Entry, same_xid}
-use Rattle.redo_spec.specs.Standing.{OpenTxn, Standing, is_open, survivor_count, with_open, touching, giving_back, active_after, standing_after, standing_after_all, entered, record_after}
+use Rattle.redo_spec.specs.Standing.{OpenTxn, Standing, is_open, survivor_count, with_open, open_txn_after_change, open_txn_after_undo, active_after, standing_after, standing_after_all, standing_at_record, record_after}
 use Rattle.redo_spec.specs.Locks.{least, contended, lock_fault}
 use Rattle.redo_spec.specs.Law.{open_limit, dictionary_fault, is_passed_over, open_fault, nothing_survives, made_fault, unless, own_fault, vector_fault, vectors_fault, whole_fault, record_fault, left_by_vectors, dictionary_left}
 use Rattle.redo_spec.proofs.ListLaws.{filter_push, filter_swap, any_filter, sum_filter, flat_filter}
@@ -52,8 +52,8 @@ active_behind : (q : ℕ) (tables : List TableRow) (at : Pos) (v : Vector) (ts :
     active_after tables at v (filter (λ t. nat_lt q t.start.rec) ts) ≡ filter (λ t. nat_lt q t.start.rec) (active_after tables at v ts)
 active_behind q tables at (Start x) ts past =
     sym (filter_push (λ t. nat_lt q t.start.rec) ts (record { start = at; xid = x; keys = [] }) (lt-ltb q at.rec past))
-active_behind q tables at (OfChange c) ts past = with_open_behind q (touching (conflict_keys tables c)) (λ t. refl) c.xid ts
-active_behind q tables at (Undo x) ts past = with_open_behind q giving_back (λ t. refl) x ts
+active_behind q tables at (OfChange c) ts past = with_open_behind q (open_txn_after_change (conflict_keys tables c)) (λ t. refl) c.xid ts
+active_behind q tables at (Undo x) ts past = with_open_behind q open_txn_after_undo (λ t. refl) x ts
 active_behind q tables at (Commit x) ts past = filter_swap (λ t. not (same_xid t.xid x)) (λ t. nat_lt q t.start.rec) ts
 active_behind q tables at (Rollback x) ts past = filter_swap (λ t. not (same_xid t.xid x)) (λ t. nat_lt q t.start.rec) ts
 active_behind q tables at (Table t) ts past = refl
@@ -70,7 +70,7 @@ behind_after_all q m vec (v ∷ vs) s past =
     ap (standing_after_all (vec + 1) vs) (behind_after q m vec v s past) ∙ behind_after_all q m (vec + 1) vs (standing_after vec v s) past
 
 pub behind_after_record : (q m : ℕ) (e : Entry) (s : Standing) → q ≤ s.rec → record_after e (behind q m s) ≡ behind q m (record_after e s)
-behind_after_record q m (h, r) s past = behind_after_all q m 1 r.vectors (entered (h, r) s) (omega (arith, past))
+behind_after_record q m (h, r) s past = behind_after_all q m 1 r.vectors (standing_at_record (h, r) s) (omega (arith, past))
 
 -- ---- up to the known record
 
@@ -148,7 +148,7 @@ vectors_behind q m h vec (v ∷ vs) s begun within past e =
 pub record_behind : (q m : ℕ) (e : Entry) (s : Standing) → s.known ≤ s.rec → s.rec + 1 ≤ m → q ≤ s.rec → record_fault s e ≡ None → record_fault (behind q m s) e ≡ None
 record_behind q m (h, r) s begun within past e =
     none_both _ _ (none_first (whole_fault s (h, r)) _ e)
-    (vectors_behind q m h 1 r.vectors (entered (h, r) s) (omega (arith, begun)) within (omega (arith, past)) (none_second (whole_fault s (h, r)) _ e))
+    (vectors_behind q m h 1 r.vectors (standing_at_record (h, r) s) (omega (arith, begun)) within (omega (arith, past)) (none_second (whole_fault s (h, r)) _ e))
 
 -- ---- behind the known record
 
@@ -180,8 +180,8 @@ left_known k h vec (v ∷ vs) s begun past =
 -- behind the known records they make no difference
 pub record_known : (k : ℕ) (e : Entry) (s : Standing) → s.known ≤ s.rec → k ≤ s.rec → record_fault (knowing k s) e ≡ record_fault s e
 record_known k (h, r) s begun past =
-    ap (option_or (whole_fault s (h, r))) (vectors_known k h 1 r.vectors (entered (h, r) s) (omega (arith, begun)) (omega (arith, past)))
+    ap (option_or (whole_fault s (h, r))) (vectors_known k h 1 r.vectors (standing_at_record (h, r) s) (omega (arith, begun)) (omega (arith, past)))
 
 pub dictionary_known : (k : ℕ) (e : Entry) (s : Standing) → s.known ≤ s.rec → k ≤ s.rec → dictionary_left (knowing k s) e ≡ dictionary_left s e
 dictionary_known k (h, r) s begun past =
-    ap (option_map_or (λ fault. s.dictionary) (whole_fault s (h, r))) (left_known k h 1 r.vectors (entered (h, r) s) (omega (arith, begun)) (omega (arith, past)))
+    ap (option_map_or (λ fault. s.dictionary) (whole_fault s (h, r))) (left_known k h 1 r.vectors (standing_at_record (h, r) s) (omega (arith, begun)) (omega (arith, past)))

@@ -9,12 +9,12 @@ use Rattle.rl_value.specs.Outcome.{map_ok}
 use Rattle.redo_spec.specs.Tables.{Tables, row_count}
 use Rattle.redo_spec.specs.History.{Committed, Commits, commits_after, commit_count}
 use Rattle.redo_spec.specs.Skips.{Skip}
-use Rattle.redo_spec.specs.Fold.{Base, Missed, Reached, commit_effects, tables_at, scn_at, visible_tables, stop_of, stop_at, reached, reached_or, verdict_of, tables_or_base, folded}
+use Rattle.redo_spec.specs.Fold.{Base, Missed, Reached, commit_effects, tables_at, scn_at, visible_tables, stop_of_commit, stop_at, reached, reached_or, verdict_of, tables_or_base, folded}
 
 -- ---- the tables
 
 -- where nothing stops there are tables
-unstopped : (scn : ℕ) (rows : Tables → ℕ) (r : Result Tables Missed) → stop_of scn (map_ok rows r) ≡ None → (t : Tables) × (r ≡ Ok t)
+unstopped : (scn : ℕ) (rows : Tables → ℕ) (r : Result Tables Missed) → stop_of_commit scn (map_ok rows r) ≡ None → (t : Tables) × (r ≡ Ok t)
 unstopped scn rows (Ok t) e = (t, refl)
 unstopped scn rows (Err m) e = absurd (cc)
 

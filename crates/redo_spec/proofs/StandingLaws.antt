@@ -13,8 +13,8 @@ use Rattle.redo_vec.specs.declared.vector.Vector.TheVariants.{Start, Change as O
 use Rattle.redo_spec.specs.declared.header.Header.{Header}
 use Rattle.redo_spec.specs.ConflictKeys.{conflict_keys}
 use Rattle.redo_spec.specs.Dictionary.{Dictionary, dictionary_after}
-use Rattle.redo_spec.specs.History.{Entry, Txn, History, same_xid, changed, undone, after_vector, after_vectors, history_after, no_history}
-use Rattle.redo_spec.specs.Standing.{Standing, beginning, with_open, touching, giving_back, closed, standing_after, standing_after_all, entered, record_after, open_txn, open_txns}
+use Rattle.redo_spec.specs.History.{Entry, Txn, History, same_xid, txn_after_change, txn_after_undo, after_vector, after_vectors, history_after, no_history}
+use Rattle.redo_spec.specs.Standing.{Standing, beginning, with_open, open_txn_after_change, open_txn_after_undo, without_open, standing_after, standing_after_all, standing_at_record, record_after, open_txn, open_txns}
 use Rattle.redo_spec.specs.Law.{Admitted, dictionary_fault, vector_fault, vectors_fault, whole_fault, record_fault, dictionary_left, admitted_or, admission}
 
 -- they agree, and before the dictionary is whole no transaction is open
@@ -75,10 +75,10 @@ both false is not = absurd (cc)
 -- ---- one vector
 
 -- an open transaction touches the keys of its survivors, also after one more, and after an UNDO
-touching_seen : (tables : List TableRow) (at : Pos) (c : Change) (t : Txn) → touching (conflict_keys tables c) (open_txn tables t) ≡ open_txn tables (changed (at, c) t)
+touching_seen : (tables : List TableRow) (at : Pos) (c : Change) (t : Txn) → open_txn_after_change (conflict_keys tables c) (open_txn tables t) ≡ open_txn tables (txn_after_change (at, c) t)
 touching_seen tables at c t = ap (λ keys. record { start = t.start; xid = t.xid; keys = keys }) (sym (map-append (λ p. conflict_keys tables p.1) t.survivors ((at, c) ∷ [])))
 
-giving_seen : (tables : List TableRow) (t : Txn) → giving_back (open_txn tables t) ≡ open_txn tables (undone t)
+giving_seen : (tables : List TableRow) (t : Txn) → open_txn_after_undo (open_txn tables t) ≡ open_txn tables (txn_after_undo t)
 giving_seen tables t =
     ap (λ n. record { start = t.start; xid = t.xid; keys = take (n - 1) (map (λ p. conflict_keys tables p.1) t.survivors) }) (length-map t.survivors (λ p. conflict_keys tables p.1))
     ∙ ap (λ keys. record { start = t.start; xid = t.xid; keys = keys }) (take-map (λ p. conflict_keys tables p.1) (length t.survivors - 1) t.survivors)
@@ -96,21 +96,21 @@ agrees_after h vec (OfChange c) s hist a fits =
     let at : Pos = record { rec = s.rec; vec = vec } in
     let keys = conflict_keys s.dictionary.tables c in
     record {
-      same = ap (with_open (touching keys) c.xid) a.same
-          ∙ map_chosen (open_txn s.dictionary.tables) (changed (at, c)) (touching keys) (λ t. same_xid t.xid c.xid) (λ t. same_xid t.xid c.xid) (λ t. refl) (touching_seen s.dictionary.tables at c) hist.active;
+      same = ap (with_open (open_txn_after_change keys) c.xid) a.same
+          ∙ map_chosen (open_txn s.dictionary.tables) (txn_after_change (at, c)) (open_txn_after_change keys) (λ t. same_xid t.xid c.xid) (λ t. same_xid t.xid c.xid) (λ t. refl) (touching_seen s.dictionary.tables at c) hist.active;
       none = λ e. both s.dictionary.finished (is_whole s.dictionary.finished _ (no_fault _ _ fits)) e;
     }
 agrees_after h vec (Undo x) s hist a fits = record {
-  same = ap (with_open giving_back x) a.same
-      ∙ map_chosen (open_txn s.dictionary.tables) undone giving_back (λ t. same_xid t.xid x) (λ t. same_xid t.xid x) (λ t. refl) (giving_seen s.dictionary.tables) hist.active;
+  same = ap (with_open open_txn_after_undo x) a.same
+      ∙ map_chosen (open_txn s.dictionary.tables) txn_after_undo open_txn_after_undo (λ t. same_xid t.xid x) (λ t. same_xid t.xid x) (λ t. refl) (giving_seen s.dictionary.tables) hist.active;
   none = λ e. both s.dictionary.finished (is_whole s.dictionary.finished _ (no_fault _ _ fits)) e;
 }
 agrees_after h vec (Commit x) s hist a fits = record {
-  same = ap (closed x) a.same ∙ filter_seen (open_txn s.dictionary.tables) (λ t. not (same_xid t.xid x)) (λ t. not (same_xid t.xid x)) (λ t. refl) hist.active;
+  same = ap (without_open x) a.same ∙ filter_seen (open_txn s.dictionary.tables) (λ t. not (same_xid t.xid x)) (λ t. not (same_xid t.xid x)) (λ t. refl) hist.active;
   none = λ e. both s.dictionary.finished (is_whole s.dictionary.finished _ (no_fault _ _ fits)) e;
 }
 agrees_after h vec (Rollback x) s hist a fits = record {
-  same = ap (closed x) a.same ∙ filter_seen (open_txn s.dictionary.tables) (λ t. not (same_xid t.xid x)) (λ t. not (same_xid t.xid x)) (λ t. refl) hist.active;
+  same = ap (without_open x) a.same ∙ filter_seen (open_txn s.dictionary.tables) (λ t. not (same_xid t.xid x)) (λ t. not (same_xid t.xid x)) (λ t. refl) hist.active;
   none = λ e. both s.dictionary.finished (is_whole s.dictionary.finished _ (no_fault _ _ fits)) e;
 }
 agrees_after h vec (Table t) s hist a fits =
@@ -134,7 +134,7 @@ agrees_after_all h vec (v ∷ vs) s hist a fits =
 
 agrees_after_record : (e : Entry) (s : Standing) (hist : History) → Agrees s hist → record_fault s e ≡ None → Agrees (record_after e s) (history_after (s.rec + 1) e hist)
 agrees_after_record (h, r) s hist a fits =
-    agrees_after_all h 1 r.vectors (entered (h, r) s) hist (record { same = a.same; none = a.none }) (none_second (whole_fault s (h, r)) _ fits)
+    agrees_after_all h 1 r.vectors (standing_at_record (h, r) s) hist (record { same = a.same; none = a.none }) (none_second (whole_fault s (h, r)) _ fits)
 
 agrees_or : (o : Option LawFault) (left : Dictionary) (s : Standing) (hist : History) (later : Admitted) → Agrees s hist → (o ≡ None → Agrees later.standing later.history) →
     Agrees (admitted_or o left s hist later).standing (admitted_or o left s hist later).history

@@ -21,11 +21,11 @@ is_null (Text bytes) = false
 is_null (Raw bytes) = false
 
 -- the value that the cells give for a column
-abbrev pub cell_at : List (ℕ × Value) → ℕ → Option Value
-cell_at [] column = None
-cell_at ((c, v) ∷ cells) column = if c == column then Some v else cell_at cells column
+abbrev pub cell_of : List (ℕ × Value) → ℕ → Option Value
+cell_of [] column = None
+cell_of ((c, v) ∷ cells) column = if c == column then Some v else cell_of cells column
 
--- the old cells with the new ones put in, as `cell_at` sees them
+-- the old cells with the new ones put in, as `cell_of` sees them
 abbrev pub put_in : List (ℕ × Value) → List (ℕ × Value) → List (ℕ × Value)
 put_in old new = new ++ old
 
@@ -39,22 +39,22 @@ abbrev pub cells_after : Change → List (ℕ × Value)
 cells_after c = after_op c.op c.old c.new
 
 -- the key of these values; key 0 is the primary key, and a unique key with a Null in it is none
-abbrev pub key_of : ℕ → ℕ → Option (List Value) → List Key
-key_of table index None = []
-key_of table index (Some values) =
+abbrev pub key_if_whole : ℕ → ℕ → Option (List Value) → List Key
+key_if_whole table index None = []
+key_if_whole table index (Some values) =
     if nat_lt 0 index && list_any is_null values then [] else record { table = table; index = index; values = values } ∷ []
 
 -- the key at these columns, where each is given
-abbrev pub key_at : ℕ → (ℕ → Option Value) → ℕ × List ℕ → List Key
-key_at table value_at (index, columns) = key_of table index (all_of (map value_at columns))
+abbrev pub key_by_columns : ℕ → (ℕ → Option Value) → ℕ × List ℕ → List Key
+key_by_columns table value_at (index, columns) = key_if_whole table index (all_of (map value_at columns))
 
 -- the keys of a table at which this gives all values
 abbrev pub keys_given : TableRow → (ℕ → Option Value) → List Key
-keys_given t value_at = flat_map (key_at t.id value_at) (enumerate_from 0 t.keys)
+keys_given t value_at = flat_map (key_by_columns t.id value_at) (enumerate_from 0 t.keys)
 
 -- the old and the new keys, as far as the cells give them
 abbrev pub conflict_keys_in : TableRow → Change → List Key
-conflict_keys_in t c = keys_given t (cell_at c.old) ++ keys_given t (cell_at (cells_after c))
+conflict_keys_in t c = keys_given t (cell_of c.old) ++ keys_given t (cell_of (cells_after c))
 
 abbrev pub conflict_keys_of : Option TableRow → Change → List Key
 conflict_keys_of None c = []

@@ -19,7 +19,7 @@ use Rattle.redo_vec.specs.declared.change.Op.{Op}
 use Rattle.redo_vec.specs.declared.change.Op.TheVariants.{Insert, Update, Delete}
 use Rattle.redo_vec.specs.declared.table.TableRow.{TableRow}
 use Rattle.redo_spec.specs.Dictionary.{primary_of, uniques_of, column_numbers}
-use Rattle.redo_spec.specs.ConflictKeys.{cell_at, is_null}
+use Rattle.redo_spec.specs.ConflictKeys.{cell_of, is_null}
 use Rattle.redo_spec.specs.Tables.{Rows, Table, Tables, value_in, values_at, primary_key, named, owner_in}
 
 -- another row has this unique value, unless there is a Null in it
@@ -59,7 +59,7 @@ take_row t k logged =
 
 -- the row with these cells put in
 abbrev pub with_cells : TableRow → List Value → List (ℕ × Value) → List Value
-with_cells t row cells = map (λ column. unwrap_or (cell_at cells column) (value_in row column)) (column_numbers t)
+with_cells t row cells = map (λ column. unwrap_or (cell_of cells column) (value_in row column)) (column_numbers t)
 
 -- the values of the cells
 abbrev pub cell_values : List (ℕ × Value) → List Value
@@ -67,7 +67,7 @@ cell_values cells = map (λ cell. cell.1) cells
 
 -- the key that the old cells name
 abbrev pub logged_key : TableRow → List (ℕ × Value) → List Value
-logged_key t cells = filter_map (cell_at cells) (primary_of t)
+logged_key t cells = filter_map (cell_of cells) (primary_of t)
 
 -- the effect on one table
 abbrev pub effect_on : Table → Op → List (ℕ × Value) → List (ℕ × Value) → Result Table Miss

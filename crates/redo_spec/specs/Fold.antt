@@ -79,13 +79,13 @@ visible_tables skips n local tables = map (visible_table skips n local) tables
 -- ---- how far a fold comes
 
 -- a commit is not applied where a change misses, or where more rows than the limit would be live
-abbrev pub stop_of : ℕ → Result ℕ Missed → Option Verdict
-stop_of scn (Err m) = Some (Mismatch scn m.pos m.table m.miss)
-stop_of scn (Ok rows) = if nat_lt live_row_limit rows then Some (RowLimit scn) else None
+abbrev pub stop_of_commit : ℕ → Result ℕ Missed → Option Verdict
+stop_of_commit scn (Err m) = Some (Mismatch scn m.pos m.table m.miss)
+stop_of_commit scn (Ok rows) = if nat_lt live_row_limit rows then Some (RowLimit scn) else None
 
 -- what keeps commit n from being applied, if anything does
 abbrev pub stop_at : Base → List Skip → Commits → ℕ → Option Verdict
-stop_at b skips cs n = stop_of (scn_at b cs n) (map_ok (λ tables. row_count (visible_tables skips n b.local tables)) (tables_at b skips cs n))
+stop_at b skips cs n = stop_of_commit (scn_at b cs n) (map_ok (λ tables. row_count (visible_tables skips n b.local tables)) (tables_at b skips cs n))
 
 -- how far a fold comes, and what stops it there
 pub record Reached : Type 0 where

@@ -76,37 +76,37 @@ abbrev pub with_xid : (Txn → Txn) → Xid → List Txn → List Txn
 with_xid f x ts = map (λ t. if same_xid t.xid x then f t else t) ts
 
 -- a transaction after one more change
-abbrev pub changed : Placed → Txn → Txn
-changed p t = record t { survivors = after_change t.survivors p }
+abbrev pub txn_after_change : Placed → Txn → Txn
+txn_after_change p t = record t { survivors = after_change t.survivors p }
 
 -- a transaction after an UNDO
-abbrev pub undone : Txn → Txn
-undone t = record t { survivors = after_undo t.survivors }
+abbrev pub txn_after_undo : Txn → Txn
+txn_after_undo t = record t { survivors = after_undo t.survivors }
 
 -- A transaction of which only the COMMIT at this position is known, and which so has no changes here. There is none in
 -- a redo from its first record on; behind a later record there is one for each transaction that began before it and
 -- commits behind it.
-abbrev pub known_by_commit : Pos → Xid → Txn
-known_by_commit at x = record { start = at; xid = x; survivors = [] }
+abbrev pub txn_known_by_commit : Pos → Xid → Txn
+txn_known_by_commit at x = record { start = at; xid = x; survivors = [] }
 
 -- the transactions that a COMMIT at this position ends
-abbrev pub ended_by : Pos → Xid → List Txn → List Txn
-ended_by at x ts = if has_xid x ts then of_xid x ts else known_by_commit at x ∷ []
+abbrev pub txns_ended_by : Pos → Xid → List Txn → List Txn
+txns_ended_by at x ts = if has_xid x ts then of_xid x ts else txn_known_by_commit at x ∷ []
 
 -- one more transaction of this id is open
-abbrev pub started : Pos → Xid → List Txn → List Txn
-started at x ts = ts ++ record { start = at; xid = x; survivors = [] } ∷ []
+abbrev pub with_started : Pos → Xid → List Txn → List Txn
+with_started at x ts = ts ++ record { start = at; xid = x; survivors = [] } ∷ []
 
 -- the commits, with these transactions committed at this position and SCN
-abbrev pub committed_at : Pos → ℕ → List Txn → Commits → Commits
-committed_at at scn ts cs = record cs { made = cs.made ++ map (λ t. record { txn = t; at = at; scn = scn }) ts }
+abbrev pub with_commits_at : Pos → ℕ → List Txn → Commits → Commits
+with_commits_at at scn ts cs = record cs { made = cs.made ++ map (λ t. record { txn = t; at = at; scn = scn }) ts }
 
 -- the history after one more vector, at this position in a record of this SCN
 abbrev pub after_vector : ℕ → Pos → Vector → History → History
-after_vector scn at (Start x) h = record h { active = started at x h.active }
-after_vector scn at (OfChange c) h = record h { active = with_xid (changed (at, c)) c.xid h.active }
-after_vector scn at (Undo x) h = record h { active = with_xid undone x h.active }
-after_vector scn at (Commit x) h = record h { active = but_xid x h.active; commits = committed_at at scn (ended_by at x h.active) h.commits }
+after_vector scn at (Start x) h = record h { active = with_started at x h.active }
+after_vector scn at (OfChange c) h = record h { active = with_xid (txn_after_change (at, c)) c.xid h.active }
+after_vector scn at (Undo x) h = record h { active = with_xid txn_after_undo x h.active }
+after_vector scn at (Commit x) h = record h { active = but_xid x h.active; commits = with_commits_at at scn (txns_ended_by at x h.active) h.commits }
 after_vector scn at (Rollback x) h = record h { active = but_xid x h.active; rolled_back = h.rolled_back ++ of_xid x h.active }
 after_vector scn at (Table t) h = h
 after_vector scn at DictEnd h = h

@@ -16,7 +16,7 @@ use Rattle.redo_spec.specs.Dictionary.{Dictionary, table_fault, is_of_dictionary
 use Rattle.redo_spec.specs.ChangeForm.{change_fault}
 use Rattle.redo_spec.specs.Locks.{lock_fault}
 use Rattle.redo_spec.specs.History.{Entry, History, same_xid, history_after, history_at}
-use Rattle.redo_spec.specs.Standing.{Standing, is_open, survivor_count, standing_after, entered, record_after, standing_at}
+use Rattle.redo_spec.specs.Standing.{Standing, is_open, survivor_count, standing_after, standing_at_record, record_after, standing_at}
 
 -- the most surviving changes that open transactions may have together
 abbrev pub open_limit : ℕ
@@ -103,7 +103,7 @@ whole_fault s (h, r) = first_fault (
 
 -- the first reason for which the record may not follow
 abbrev pub record_fault : Standing → Entry → Option LawFault
-record_fault s (h, r) = option_or (whole_fault s (h, r)) (vectors_fault h 1 r.vectors (entered (h, r) s))
+record_fault s (h, r) = option_or (whole_fault s (h, r)) (vectors_fault h 1 r.vectors (standing_at_record (h, r) s))
 
 -- ---- the dictionary that a refused record leaves
 
@@ -113,7 +113,7 @@ left_by_vectors h vec (v ∷ vs) s = option_map_or (λ fault. s.dictionary) (vec
 
 -- that of its vectors before the refused one; where it is refused as a whole, none of its vectors counts
 abbrev pub dictionary_left : Standing → Entry → Dictionary
-dictionary_left s (h, r) = option_map_or (λ fault. s.dictionary) (whole_fault s (h, r)) (left_by_vectors h 1 r.vectors (entered (h, r) s))
+dictionary_left s (h, r) = option_map_or (λ fault. s.dictionary) (whole_fault s (h, r)) (left_by_vectors h 1 r.vectors (standing_at_record (h, r) s))
 
 -- ---- the redo
 

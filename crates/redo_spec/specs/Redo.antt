@@ -29,27 +29,27 @@ pub record Records : Type 0 where
   pub entries : List Entry
   pub cause : Option Cause
 
-abbrev pub broken : Cause → Records
-broken cause = record { entries = []; cause = Some cause }
+abbrev pub records_ended_by : Cause → Records
+records_ended_by cause = record { entries = []; cause = Some cause }
 
 abbrev pub with_entry : Entry → Records → Records
 with_entry e r = record { entries = e ∷ r.entries; cause = r.cause }
 
 -- a record that was cut off, unless it does not decode, and then the later ones
 abbrev pub decoded_or : Header → Result RedoRec Fault → Records → Records
-decoded_or h (Err f) later = broken (Vector f.fault f.place)
+decoded_or h (Err f) later = records_ended_by (Vector f.fault f.place)
 decoded_or h (Ok r) later = with_entry (h, r) later
 
 -- what follows on the first record and the bytes behind it, unless none can be cut off
-abbrev pub cut_or : Result (List ℕ × List ℕ) CutFault → (List ℕ → List ℕ → Records) → Records
-cut_or (Err fault) next = broken (Cut fault)
-cut_or (Ok cut) next = next cut.0 cut.1
+abbrev pub records_of_cut : Result (List ℕ × List ℕ) CutFault → (List ℕ → List ℕ → Records) → Records
+records_of_cut (Err fault) next = records_ended_by (Cut fault)
+records_of_cut (Ok cut) next = next cut.0 cut.1
 
 -- so many records, and then nothing
 abbrev pub records_in : Header → ℕ → List ℕ → Records
 records_in h zero [] = record { entries = []; cause = None }
-records_in h zero (b ∷ bytes) = broken (Cut cuts.Trailing)
-records_in h (suc count) bytes = cut_or (first_record bytes) (λ cut rest. decoded_or h (record_at cut) (records_in h count rest))
+records_in h zero (b ∷ bytes) = records_ended_by (Cut cuts.Trailing)
+records_in h (suc count) bytes = records_of_cut (first_record bytes) (λ cut rest. decoded_or h (record_at cut) (records_in h count rest))
 
 -- the records of a whole log
 abbrev pub records_of : List ℕ → Records
@@ -67,34 +67,34 @@ pub record Redo : Type 0 where
   pub stop : Stop
 
 -- these records follow on record rec; where a cause ends them it is that of the next record, and else later ones follow
-abbrev pub joined : Option Cause → ℕ → List Entry → Redo → Redo
-joined (Some cause) rec entries later = record { entries = entries; stop = Malformed (rec + length entries + 1) cause }
-joined None rec entries later = record { entries = entries ++ later.entries; stop = later.stop }
+abbrev pub redo_behind : Option Cause → ℕ → List Entry → Redo → Redo
+redo_behind (Some cause) rec entries later = record { entries = entries; stop = Malformed (rec + length entries + 1) cause }
+redo_behind None rec entries later = record { entries = entries ++ later.entries; stop = later.stop }
 
-abbrev pub after_records : ℕ → Records → Redo → Redo
-after_records rec r later = joined r.cause rec r.entries later
+abbrev pub redo_after_records : ℕ → Records → Redo → Redo
+redo_after_records rec r later = redo_behind r.cause rec r.entries later
 
-abbrev pub ended : Stop → Redo
-ended stop = record { entries = []; stop = stop }
+abbrev pub redo_ended_by : Stop → Redo
+redo_ended_by stop = record { entries = []; stop = stop }
 
 -- registered logs in order of their sequences, from this sequence on, behind this many records
 abbrev pub redo_from : ℕ → ℕ → List (ℕ × List ℕ) → Redo
-redo_from seq rec [] = ended Drained
+redo_from seq rec [] = redo_ended_by Drained
 redo_from seq rec ((s, bytes) ∷ logs) =
-    if s == seq then (let r = records_of bytes in after_records rec r (redo_from (seq + 1) (rec + length r.entries) logs))
-    else ended (Gap seq (s - 1))
+    if s == seq then (let r = records_of bytes in redo_after_records rec r (redo_from (seq + 1) (rec + length r.entries) logs))
+    else redo_ended_by (Gap seq (s - 1))
 
 -- ---- fold: one log
 
-abbrev pub headed : Option HeadFault → ℕ → List ℕ → Folded
-headed (Some fault) seq bytes = fold_of_redo seq 0 [] (Malformed 1 (Head fault))
-headed None seq bytes = let redo = redo_from seq 0 ((seq, bytes) ∷ []) in fold_of_redo seq ((header_in bytes).first - 1) redo.entries redo.stop
+abbrev pub fold_of_header : Option HeadFault → ℕ → List ℕ → Folded
+fold_of_header (Some fault) seq bytes = fold_of_redo seq 0 [] (Malformed 1 (Head fault))
+fold_of_header None seq bytes = let redo = redo_from seq 0 ((seq, bytes) ∷ []) in fold_of_redo seq ((header_in bytes).first - 1) redo.entries redo.stop
 
 -- The fold of one log over empty tables. An absent log is a gap. Where the log is absent or its header is refused, the base
 -- SCN is 0, and no table is known.
 abbrev pub fold_of_log : ℕ → Option (List ℕ) → Folded
 fold_of_log seq None = fold_of_redo seq 0 [] (Gap seq seq)
-fold_of_log seq (Some bytes) = headed (header_fault seq bytes) seq bytes
+fold_of_log seq (Some bytes) = fold_of_header (header_fault seq bytes) seq bytes
 
 -- ---- mine: logs of consecutive sequences, each met as it comes
 
@@ -108,21 +108,21 @@ abbrev pub mined_header_fault : Option ℕ → ℕ → List ℕ → Option HeadF
 mined_header_fault dbid seq bytes = option_or (header_fault seq bytes) (dbid_fault dbid bytes)
 
 -- a log whose header is refused ends the redo at the number of the next record
-abbrev pub unless_refused : Option HeadFault → ℕ → Redo → Redo
-unless_refused (Some fault) rec later = ended (Malformed (rec + 1) (Head fault))
-unless_refused None rec later = later
+abbrev pub redo_unless_refused : Option HeadFault → ℕ → Redo → Redo
+redo_unless_refused (Some fault) rec later = redo_ended_by (Malformed (rec + 1) (Head fault))
+redo_unless_refused None rec later = later
 
 -- what follows on a log that is there; one that is absent is the gap
 abbrev pub present_or : ℕ → Option (List ℕ) → (List ℕ → Redo) → Redo
-present_or seq None next = ended (Gap seq seq)
+present_or seq None next = redo_ended_by (Gap seq seq)
 present_or seq (Some bytes) next = next bytes
 
 -- so many logs from this sequence on, behind this many records, of this database where it is known
 abbrev pub mined_redo_from : (ℕ → Option (List ℕ)) → Option ℕ → ℕ → ℕ → ℕ → Redo
-mined_redo_from logs dbid zero seq rec = ended Drained
-mined_redo_from logs dbid (suc count) seq rec = present_or seq (logs seq) (λ bytes. unless_refused (mined_header_fault dbid seq bytes) rec
+mined_redo_from logs dbid zero seq rec = redo_ended_by Drained
+mined_redo_from logs dbid (suc count) seq rec = present_or seq (logs seq) (λ bytes. redo_unless_refused (mined_header_fault dbid seq bytes) rec
     (let r = records_of bytes in
-    after_records rec r (mined_redo_from logs (option_or dbid (Some (header_in bytes).dbid)) count (seq + 1) (rec + length r.entries))))
+    redo_after_records rec r (mined_redo_from logs (option_or dbid (Some (header_in bytes).dbid)) count (seq + 1) (rec + length r.entries))))
 
 -- the redo of the logs of these sequences, both included
 abbrev pub mined_redo : (ℕ → Option (List ℕ)) → ℕ → ℕ → Redo

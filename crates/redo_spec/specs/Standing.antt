@@ -54,24 +54,24 @@ abbrev pub with_open : (OpenTxn → OpenTxn) → Xid → List OpenTxn → List O
 with_open f x ts = map (λ t. if same_xid t.xid x then f t else t) ts
 
 -- an open transaction after a change that touches these keys
-abbrev pub touching : List Key → OpenTxn → OpenTxn
-touching keys t = record t { keys = after_change t.keys keys }
+abbrev pub open_txn_after_change : List Key → OpenTxn → OpenTxn
+open_txn_after_change keys t = record t { keys = after_change t.keys keys }
 
 -- an open transaction after an UNDO
-abbrev pub giving_back : OpenTxn → OpenTxn
-giving_back t = record t { keys = after_undo t.keys }
+abbrev pub open_txn_after_undo : OpenTxn → OpenTxn
+open_txn_after_undo t = record t { keys = after_undo t.keys }
 
 -- the open transactions of other ids
-abbrev pub closed : Xid → List OpenTxn → List OpenTxn
-closed x ts = filter (λ t. not (same_xid t.xid x)) ts
+abbrev pub without_open : Xid → List OpenTxn → List OpenTxn
+without_open x ts = filter (λ t. not (same_xid t.xid x)) ts
 
 -- the open transactions after one more vector at this position, where the dictionary has these tables
 abbrev pub active_after : List TableRow → Pos → Vector → List OpenTxn → List OpenTxn
 active_after tables at (Start x) ts = ts ++ record { start = at; xid = x; keys = [] } ∷ []
-active_after tables at (OfChange c) ts = with_open (touching (conflict_keys tables c)) c.xid ts
-active_after tables at (Undo x) ts = with_open giving_back x ts
-active_after tables at (Commit x) ts = closed x ts
-active_after tables at (Rollback x) ts = closed x ts
+active_after tables at (OfChange c) ts = with_open (open_txn_after_change (conflict_keys tables c)) c.xid ts
+active_after tables at (Undo x) ts = with_open open_txn_after_undo x ts
+active_after tables at (Commit x) ts = without_open x ts
+active_after tables at (Rollback x) ts = without_open x ts
 active_after tables at (Table t) ts = ts
 active_after tables at DictEnd ts = ts
 
@@ -101,12 +101,12 @@ standing_after_all vec (v ∷ vs) s = standing_after_all (vec + 1) vs (standing_
 -- ---- one more record
 
 -- the standing as a record begins: it counts, and its log and its SCN are the last ones
-abbrev pub entered : Entry → Standing → Standing
-entered (h, r) s = record s { rec = s.rec + 1; head = Some h; scn = r.scn }
+abbrev pub standing_at_record : Entry → Standing → Standing
+standing_at_record (h, r) s = record s { rec = s.rec + 1; head = Some h; scn = r.scn }
 
 -- the standing after one more record
 abbrev pub record_after : Entry → Standing → Standing
-record_after (h, r) s = standing_after_all 1 r.vectors (entered (h, r) s)
+record_after (h, r) s = standing_after_all 1 r.vectors (standing_at_record (h, r) s)
 
 -- the standing after these records
 abbrev pub standing_at : Standing → List Entry → Standing

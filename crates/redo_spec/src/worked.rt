@@ -15,7 +15,7 @@ ghost use Rattle.redo_vec.specs.declared.columns.Kind.TheVariants as kinds;
 ghost use Rattle.redo_spec.specs.Dictionary.{table_fault};
 ghost use Rattle.redo_spec.specs.ChangeForm.{fits};
 ghost use Rattle.redo_spec.specs.Watermark.{watermark_of};
-ghost use Rattle.redo_spec.specs.Fold.{stop_of, fold_of_redo};
+ghost use Rattle.redo_spec.specs.Fold.{stop_of_commit, fold_of_redo};
 ghost use Rattle.redo_spec.specs.Lines.{fold_lines};
 ghost use Rattle.redo_spec.specs.Redo.{entries_of};
 ghost use Rattle.redo_spec.specs.Skips.{matches, is_pattern, Tables, Transaction};
@@ -327,8 +327,8 @@ pub fn further_first_causes()
 
 /// 2^20 rows may be live, and one more stops the fold.
 pub fn live_rows_have_a_limit()
-    ensures most { stop_of 5 (Ok (2 ^ 20)) ≡ None }
-    ensures one_more { stop_of 5 (Ok (2 ^ 20 + 1)) ≡ Some (RowLimit 5) }
+    ensures most { stop_of_commit 5 (Ok (2 ^ 20)) ≡ None }
+    ensures one_more { stop_of_commit 5 (Ok (2 ^ 20 + 1)) ≡ Some (RowLimit 5) }
 {}
 
 /// A change that is skipped waits for nothing, and no change waits for one that is skipped.

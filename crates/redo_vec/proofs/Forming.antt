@@ -12,7 +12,7 @@ use Rattle.redo_vec.specs.declared.columns.Kind.{Kind}
 use Rattle.redo_vec.specs.declared.columns.Kind.TheVariants as kinds
 use Rattle.redo_vec.specs.Forms.{rises, is_key_columns, are_keys}
 use Rattle.redo_vec.specs.Columns.{is_kind, are_columns}
-use Rattle.redo_vec.specs.Reading.{◌>>=◌, items_from, with_front, byte_at, number_at, rising_at, value_at, cell_at, after_cell, name_at, kind_at, flag_at, column_at, is_size_of, kind_of, count_at, rising_from, key_at}
+use Rattle.redo_vec.specs.Reading.{◌>>=◌, items_from, with_front, byte_at, number_at, rising_at, value_at, cell_at, after_cell, name_at, kind_at, flag_at, column_at, is_size_of, kind_by_number, count_at, rising_from, key_at}
 use Rattle.redo_vec.proofs.Steps.{bind_ok, passed, held, ok_is, neither, Chain, items_have}
 
 pub both_true : (a b : Bool) → a ≡ true → b ≡ true → (a && b) ≡ true
@@ -117,7 +117,7 @@ kind_chosen true text size e = refl
 kind_chosen false true size e = e
 kind_chosen false false size e = e
 
-kind_fits : (kind size : ℕ) → is_size_of kind size ≡ true → is_kind (kind_of kind size) ≡ true
+kind_fits : (kind size : ℕ) → is_size_of kind size ≡ true → is_kind (kind_by_number kind size) ≡ true
 kind_fits kind size e = kind_chosen (kind == 1) (kind == 2) size e
 
 pub kind_form : (n : ℕ) (bytes : List ℕ) (x : Kind × List ℕ) → kind_at n bytes ≡ Ok x → is_kind x.0 ≡ true
@@ -126,8 +126,8 @@ kind_form n bytes x e =
     let a = bind_ok (byte_at n bytes) _ x e in
     let g = passed (a.0.0 == 0 || nat_lt 3 a.0.0) _ _ x a.2 in
     let b = bind_ok (number_at w16 n a.0.1) _ x g.1 in
-    let h = held (is_size_of a.0.0 b.0.0) _ (Ok (kind_of a.0.0 b.0.0, b.0.1)) x b.2 in
-    subst (λ (y : Kind × List ℕ). is_kind y.0 ≡ true) (ok_is (kind_of a.0.0 b.0.0, b.0.1) x h.1) (kind_fits a.0.0 b.0.0 h.0)
+    let h = held (is_size_of a.0.0 b.0.0) _ (Ok (kind_by_number a.0.0 b.0.0, b.0.1)) x b.2 in
+    subst (λ (y : Kind × List ℕ). is_kind y.0 ≡ true) (ok_is (kind_by_number a.0.0 b.0.0, b.0.1) x h.1) (kind_fits a.0.0 b.0.0 h.0)
 
 pub column_form : (n : ℕ) (bytes : List ℕ) (x : Column × List ℕ) → column_at n bytes ≡ Ok x → is_kind x.0.kind ≡ true
 unfolding column_at

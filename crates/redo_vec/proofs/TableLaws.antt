@@ -11,7 +11,7 @@ use Rattle.redo_vec.specs.declared.table.TableRow.{TableRow}
 use Rattle.redo_vec.specs.Forms.{rises, is_key_columns, are_keys}
 use Rattle.redo_vec.specs.Spelling.{be16, be32, name, kind, column, key, keys, table}
 use Rattle.redo_vec.specs.Ranges.{IsWord, IsKind, IsColumn, IsTable}
-use Rattle.redo_vec.specs.Reading.{items_from, number_at, byte_at, name_at, is_size_of, kind_of, kind_at, flag_at, column_at, columns_from, count_at, rising_at, rising_from, key_at, keys_from, keys_at, table_at}
+use Rattle.redo_vec.specs.Reading.{items_from, number_at, byte_at, name_at, is_size_of, kind_by_number, kind_at, flag_at, column_at, columns_from, count_at, rising_at, rising_from, key_at, keys_from, keys_at, table_at}
 use Rattle.redo_vec.proofs.Steps.{bind_ok, passed, held, ok_is, neither, Chain}
 use Rattle.redo_vec.proofs.Forming.{Rises, nonzero, both_true, rising_form, count_form, key_form, keys_form, are_keys_of}
 use Rattle.redo_vec.proofs.Takes.{IsBytes, Takes, Takes-then, tag_then, Sound, Whole, wide16, wide32, number_sound, number_whole, byte_sound, bytes_sound, bytes_whole, items_sound, items_whole, chain_each, each_chain}
@@ -47,7 +47,7 @@ kind_sized : (size : ℕ) → (nat_le 1 size && nat_le size 500) ≡ true → (1
 kind_sized size fits = let p = and_parts _ _ fits in (leb-true _ _ p.0, leb-true _ _ p.1)
 
 -- a type is spelled as it is read
-kind_spelled : (k size : ℕ) → (k == 0 || nat_lt 3 k) ≡ false → is_size_of k size ≡ true → (kind (kind_of k size) ≡ k ∷ be16 size) × IsKind (kind_of k size)
+kind_spelled : (k size : ℕ) → (k == 0 || nat_lt 3 k) ≡ false → is_size_of k size ≡ true → (kind (kind_by_number k size) ≡ k ∷ be16 size) × IsKind (kind_by_number k size)
 kind_spelled zero size low fits = absurd cc
 kind_spelled (suc zero) size low fits = (ap (λ (s : ℕ). 1 ∷ be16 s) (sym (eqb-true _ _ fits)), tt)
 kind_spelled (suc (suc zero)) size low fits = (refl, kind_sized size fits)
@@ -65,10 +65,10 @@ kind_sound n bytes x ok e =
     let g = passed (a.0.0 == 0 || nat_lt 3 a.0.0) _ _ x a.2 in
     let b = bind_ok (number_at w16 n a.0.1) _ x g.1 in
     let tb = number_sound w16 (2 ^ 16) wide16 n a.0.1 b.0 ta.0.rest_fits b.1 in
-    let h = held (is_size_of a.0.0 b.0.0) _ (Ok (kind_of a.0.0 b.0.0, b.0.1)) x b.2 in
+    let h = held (is_size_of a.0.0 b.0.0) _ (Ok (kind_by_number a.0.0 b.0.0, b.0.1)) x b.2 in
     let s = kind_spelled a.0.0 b.0.0 g.0 h.0 in
     let both : Takes bytes (a.0.0 ∷ be16 b.0.0) b.0.1 = Takes-then bytes (a.0.0 ∷ []) a.0.1 (be16 b.0.0) b.0.1 ta.0 tb.0 in
-    subst (λ (y : Kind × List ℕ). Takes bytes (kind y.0) y.1 × IsKind y.0) (ok_is (kind_of a.0.0 b.0.0, b.0.1) x h.1) (subst (λ (t : List ℕ). Takes bytes t b.0.1) (sym s.0) both, s.1)
+    subst (λ (y : Kind × List ℕ). Takes bytes (kind y.0) y.1 × IsKind y.0) (ok_is (kind_by_number a.0.0 b.0.0, b.0.1) x h.1) (subst (λ (t : List ℕ). Takes bytes t b.0.1) (sym s.0) both, s.1)
 
 sized : (size : ℕ) → 1 ≤ size → size ≤ 500 → (nat_le 1 size && nat_le size 500) ≡ true
 sized size some most = both_true _ _ (le-leb _ _ some) (le-leb _ _ most)

@@ -135,14 +135,14 @@ name_at n bytes = do
 abbrev pub is_size_of : ℕ → ℕ → Bool
 is_size_of kind size = if kind == 1 then size == 0 else nat_le 1 size && nat_le size 500
 
-abbrev pub kind_of : ℕ → ℕ → Kind
-kind_of kind size = if kind == 1 then kinds.Number else if kind == 2 then kinds.Text size else kinds.Raw size
+abbrev pub kind_by_number : ℕ → ℕ → Kind
+kind_by_number kind size = if kind == 1 then kinds.Number else if kind == 2 then kinds.Text size else kinds.Raw size
 
 unfoldable pub kind_at : ℕ → List ℕ → Read Kind
 kind_at n bytes = do
   kind ← byte_at n bytes
   if kind.0 == 0 || nat_lt 3 kind.0 then fault_at faults.Tag n bytes
-      else (number_at w16 n kind.1 >>= λ size. if is_size_of kind.0 size.0 then Ok (kind_of kind.0 size.0, size.1) else fault_at faults.Size n kind.1)
+      else (number_at w16 n kind.1 >>= λ size. if is_size_of kind.0 size.0 then Ok (kind_by_number kind.0 size.0, size.1) else fault_at faults.Size n kind.1)
 
 unfoldable pub flag_at : ℕ → List ℕ → Read Bool
 flag_at n bytes = do

@@ -2,7 +2,7 @@
 ghost use Rattle.std.specs.Prelude.{◌≡◌, ◌+◌, ◌≤◌, ◌<◌, [], ◌∷◌, length, IfOk, IsTrue};
 ghost use Rattle.redo_vec.specs.Given.{Gives};
 ghost use Rattle.redo_vec.specs.Columns.{is_kind};
-ghost use Rattle.redo_vec.specs.Reading.{items_from, with_front, name_at, is_size_of, kind_of, kind_at, flag_at, column_at, count_at, rising_at, rising_from, key_at, keys_at, columns_from, keys_from, table_at};
+ghost use Rattle.redo_vec.specs.Reading.{items_from, with_front, name_at, is_size_of, kind_by_number, kind_at, flag_at, column_at, count_at, rising_at, rising_from, key_at, keys_at, columns_from, keys_from, table_at};
 
 use crate::columns::{Column, Columns, Kind};
 use crate::fault::DecodeFault;
@@ -37,7 +37,7 @@ fn size_fits(kind: u8, size: u16) -> bool
 }
 
 fn kind_with(kind: u8, size: u16) -> Kind
-    ensures { result ≡ kind_of kind size }
+    ensures { result ≡ kind_by_number kind size }
 {
     match kind {
         1 => Kind::Number,

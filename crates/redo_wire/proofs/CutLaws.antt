@@ -13,27 +13,27 @@ use Rattle.redo_wire.specs.declared.cutting.Taken.{Taken}
 use Rattle.redo_wire.specs.Taken.{cut_of_taken}
 use Rattle.redo_wire.proofs.FirstLaws.{first_more}
 use Rattle.redo_wire.proofs.StreamLaws.{goes_by}
-use Rattle.redo_wire.specs.Stream.{Cut, told_of, left_after, cut_off, with_raws, behind, raw_at}
+use Rattle.redo_wire.specs.Stream.{Cut, told_of, left_after, cut_off, with_raws, log_place_behind, raw_of_bytes}
 
 pub one_more : (h : Header) (k : ℕ) (p : LogPlace) (bytes : List ℕ) (size : ℕ) (front : List Raw) → first_record bytes ≡ Ok (take size bytes, drop size bytes)
-    → with_raws front (cut_off h (suc k) p bytes) ≡ with_raws (front ++ raw_at h p (take size bytes) ∷ []) (cut_off h k (behind p (take size bytes)) (drop size bytes))
+    → with_raws front (cut_off h (suc k) p bytes) ≡ with_raws (front ++ raw_of_bytes h p (take size bytes) ∷ []) (cut_off h k (log_place_behind p (take size bytes)) (drop size bytes))
 one_more h k p bytes size front e =
-    let c = cut_off h k (behind p (take size bytes)) (drop size bytes) in
-    rw e (ap (λ (raws : List Raw). record { raws = raws; place = c.place; left = c.left; cause = c.cause }) (sym (append_assoc front (raw_at h p (take size bytes) ∷ []) c.raws)))
+    let c = cut_off h k (log_place_behind p (take size bytes)) (drop size bytes) in
+    rw e (ap (λ (raws : List Raw). record { raws = raws; place = c.place; left = c.left; cause = c.cause }) (sym (append_assoc front (raw_of_bytes h p (take size bytes) ∷ []) c.raws)))
 
 -- The same as a loop has it: `rest` is what is not cut off yet, `items` are the records with the one more.
 pub goes_on_by : (h : Header) (p : LogPlace) (bytes rest : List ℕ) (used size : ℕ) (front items : List Raw) (raw : Raw) (total : Cut) → p.done < h.count → rest ≡ drop used bytes → first_record rest ≡ Ok (take size rest, drop size rest)
-    → size ≤ length rest → raw ≡ raw_at h p (take size rest) → items ≡ front ++ raw ∷ []
+    → size ≤ length rest → raw ≡ raw_of_bytes h p (take size rest) → items ≡ front ++ raw ∷ []
     → with_raws front (cut_off h (h.count - p.done) p (drop used bytes)) ≡ total
     → with_raws items (cut_off h (h.count - (p.done + 1)) (record { rec = p.rec + 1; at = p.at + size; done = p.done + 1 }) (drop (used + size) bytes)) ≡ total
 goes_on_by h p bytes rest used size front items raw total lt behind_it e whole is pushed so_far =
     let k : ℕ = h.count - (p.done + 1) in
     let found : List ℕ = take size rest in
-    let all : items ≡ front ++ raw_at h p found ∷ [] = pushed ∙ ap (λ (r : Raw). front ++ r ∷ []) is in
+    let all : items ≡ front ++ raw_of_bytes h p found ∷ [] = pushed ∙ ap (λ (r : Raw). front ++ r ∷ []) is in
     let later : drop (used + size) bytes ≡ drop size rest = sym (drop-drop size used bytes) ∙ ap (drop size) (sym behind_it) in
     ap (λ (raws : List Raw). with_raws raws (cut_off h k (record { rec = p.rec + 1; at = p.at + size; done = p.done + 1 }) (drop (used + size) bytes))) all
-    ∙ ap (λ (n : ℕ). with_raws (front ++ raw_at h p found ∷ []) (cut_off h k (record { rec = p.rec + 1; at = p.at + n; done = p.done + 1 }) (drop (used + size) bytes))) (sym (length-take-le size rest whole))
-    ∙ ap (λ (after : List ℕ). with_raws (front ++ raw_at h p found ∷ []) (cut_off h k (behind p found) after)) later
+    ∙ ap (λ (n : ℕ). with_raws (front ++ raw_of_bytes h p found ∷ []) (cut_off h k (record { rec = p.rec + 1; at = p.at + n; done = p.done + 1 }) (drop (used + size) bytes))) (sym (length-take-le size rest whole))
+    ∙ ap (λ (after : List ℕ). with_raws (front ++ raw_of_bytes h p found ∷ []) (cut_off h k (log_place_behind p found) after)) later
     ∙ sym (one_more h k p rest size front e)
     ∙ ap (λ (n : ℕ). with_raws front (cut_off h n p rest)) (let less : suc k ≡ h.count - p.done = omega arith in less)
     ∙ ap (λ (xs : List ℕ). with_raws front (cut_off h (h.count - p.done) p xs)) behind_it
@@ -96,13 +96,13 @@ took (Err m) whole total e is = tt
 
 -- one whole record, and what is cut off the bytes behind it
 pub one_behind : (h : Header) (p q : LogPlace) (a b : List ℕ) (raws : List Raw) → p.done < h.count → first_record a ≡ Ok (a, [])
-    → q ≡ behind p a → raws ≡ raw_at h p a ∷ []
+    → q ≡ log_place_behind p a → raws ≡ raw_of_bytes h p a ∷ []
     → cut_off h (h.count - p.done) p (a ++ b) ≡ with_raws raws (cut_off h (h.count - q.done) q b)
 one_behind h p q a b raws lt e at is =
     let k : h.count - p.done ≡ suc (h.count - (p.done + 1)) = omega arith in
     ap (λ (n : ℕ). cut_off h n p (a ++ b)) k
     ∙ goes_by h (h.count - (p.done + 1)) p (a ++ b) (Ok (a, b)) (first_more a b (a, []) e)
-    ∙ ap (λ (r : LogPlace). with_raws (raw_at h p a ∷ []) (cut_off h (h.count - r.done) r b)) (sym at)
+    ∙ ap (λ (r : LogPlace). with_raws (raw_of_bytes h p a ∷ []) (cut_off h (h.count - r.done) r b)) (sym at)
     ∙ ap (λ (xs : List Raw). with_raws xs (cut_off h (h.count - q.done) q b)) (sym is)
 
 -- the same cut, said otherwise

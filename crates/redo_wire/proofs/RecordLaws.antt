@@ -9,17 +9,17 @@ use Rattle.rl_value.specs.declared.cause.CutFault.TheVariants as cuts
 use Rattle.redo_vec.specs.Cutting.{first_record}
 use Rattle.redo_vec.specs.Reading.{record_at}
 use Rattle.redo_spec.specs.declared.header.Header.{Header}
-use Rattle.redo_spec.specs.Redo.{Records, decoded_or, records_in, cut_or as read_or}
+use Rattle.redo_spec.specs.Redo.{Records, decoded_or, records_in, records_of_cut as read_or}
 use Rattle.redo_wire.specs.declared.raw.Raw.{Raw}
 use Rattle.redo_wire.specs.declared.cutting.LogPlace.{LogPlace}
-use Rattle.redo_wire.specs.Stream.{Cut, with_raw, cut_or, cut_off, behind, raw_at, Stream, given, told_after, fed, Run, run_of, begun, end_fault}
-use Rattle.redo_wire.specs.Records.{AreFramed, missing_after, decoded}
+use Rattle.redo_wire.specs.Stream.{Cut, with_raw, cut_or, cut_off, log_place_behind, raw_of_bytes, Stream, cut_of_piece, told_after, stream_after, Run, run_of, stream_at, end_fault}
+use Rattle.redo_wire.specs.Records.{AreFramed, missing_after, records_of_raws}
 use Rattle.redo_wire.proofs.FirstLaws.{alone}
 use Rattle.redo_wire.proofs.StreamLaws.{told_twice, pieces_give}
 
 framed_by : (h : Header) (k : ℕ) (p : LogPlace) (bytes : List ℕ) → p.done + suc k ≤ h.count → ((q : LogPlace) (rest : List ℕ) → q.done + k ≤ h.count → AreFramed h q (cut_off h k q rest).raws) → (r : Result (List ℕ × List ℕ) CutFault) → first_record bytes ≡ r
-    → AreFramed h p (cut_or r p bytes (λ found rest. with_raw (raw_at h p found) (cut_off h k (behind p found) rest))).raws
-framed_by h k p bytes le later (Ok x) e = (record { rec = refl; head = refl; end = refl; done = refl; within = omega arith; whole = alone bytes x e }, later (behind p x.0) x.1 (omega arith))
+    → AreFramed h p (cut_or r p bytes (λ found rest. with_raw (raw_of_bytes h p found) (cut_off h k (log_place_behind p found) rest))).raws
+framed_by h k p bytes le later (Ok x) e = (record { rec = refl; head = refl; end = refl; done = refl; within = omega arith; whole = alone bytes x e }, later (log_place_behind p x.0) x.1 (omega arith))
 framed_by h k p bytes le later (Err fault) e = tt
 
 -- cut records stand one behind the other
@@ -32,7 +32,7 @@ framed_off h (suc k) p bytes le = framed_by h k p bytes le (λ q rest less. fram
 
 -- what a cut gives to the end of the log's bytes
 abbrev Decoded : Header → Cut → Records
-Decoded h c = decoded c.raws (option_or c.cause (missing_after h c))
+Decoded h c = records_of_raws c.raws (option_or c.cause (missing_after h c))
 
 all_done : (h : Header) (p : LogPlace) → p.done ≡ h.count → missing_after h (record { raws = []; place = p; left = []; cause = None }) ≡ None
 all_done h p e = let same : (p.done == h.count) ≡ true = grind (arith, nat_tests) in rw same refl
@@ -41,16 +41,16 @@ not_done : (h : Header) (p : LogPlace) (left : List ℕ) → p.done < h.count �
 not_done h p left lt = let other : (p.done == h.count) ≡ false = grind (arith, nat_tests) in rw other refl
 
 read_by : (h : Header) (k : ℕ) (p : LogPlace) (bytes : List ℕ) → p.done < h.count → ((q : LogPlace) (rest : List ℕ) → q.done ≡ p.done + 1 → records_in h k rest ≡ Decoded h (cut_off h k q rest)) → (r : Result (List ℕ × List ℕ) CutFault)
-    → read_or r (λ cut rest. decoded_or h (record_at cut) (records_in h k rest)) ≡ Decoded h (cut_or r p bytes (λ found rest. with_raw (raw_at h p found) (cut_off h k (behind p found) rest)))
-read_by h k p bytes lt later (Ok x) = ap (decoded_or h (record_at x.0)) (later (behind p x.0) x.1 refl)
-read_by h k p bytes lt later (Err cuts.Truncated) = ap (decoded []) (sym (not_done h p bytes lt))
+    → read_or r (λ cut rest. decoded_or h (record_at cut) (records_in h k rest)) ≡ Decoded h (cut_or r p bytes (λ found rest. with_raw (raw_of_bytes h p found) (cut_off h k (log_place_behind p found) rest)))
+read_by h k p bytes lt later (Ok x) = ap (decoded_or h (record_at x.0)) (later (log_place_behind p x.0) x.1 refl)
+read_by h k p bytes lt later (Err cuts.Truncated) = ap (records_of_raws []) (sym (not_done h p bytes lt))
 read_by h k p bytes lt later (Err cuts.Length) = refl
 read_by h k p bytes lt later (Err cuts.Count) = refl
 read_by h k p bytes lt later (Err cuts.Trailing) = refl
 
 -- the records of bytes are those that are cut off them, decoded
 pub read_as_cut : (h : Header) (k : ℕ) (p : LogPlace) (bytes : List ℕ) → p.done + k ≡ h.count → records_in h k bytes ≡ Decoded h (cut_off h k p bytes)
-read_as_cut h zero p [] e = ap (decoded []) (sym (all_done h p (omega arith)))
+read_as_cut h zero p [] e = ap (records_of_raws []) (sym (all_done h p (omega arith)))
 read_as_cut h zero p (b ∷ bytes) e = refl
 read_as_cut h (suc k) p bytes e = read_by h k p bytes (omega arith) (λ q rest f. read_as_cut h k q rest (omega arith)) (first_record bytes)
 
@@ -58,7 +58,7 @@ read_as_cut h (suc k) p bytes e = read_by h k p bytes (omega arith) (λ q rest f
 
 run_head : (s : Stream) (pieces : List (List ℕ)) → (run_of s pieces).stream.head ≡ s.head
 run_head s [] = refl
-run_head s (piece ∷ pieces) = run_head (fed s piece) pieces
+run_head s (piece ∷ pieces) = run_head (stream_after s piece) pieces
 
 told_none : (fault_told : Bool) → fault_told ≡ told_after fault_told None
 told_none true = refl
@@ -66,12 +66,12 @@ told_none false = refl
 
 run_told : (s : Stream) (pieces : List (List ℕ)) → (run_of s pieces).stream.fault_told ≡ told_after s.fault_told (run_of s pieces).cause
 run_told s [] = told_none s.fault_told
-run_told s (piece ∷ pieces) = run_told (fed s piece) pieces ∙ sym (told_twice s.fault_told (given s piece).cause (run_of (fed s piece) pieces).cause)
+run_told s (piece ∷ pieces) = run_told (stream_after s piece) pieces ∙ sym (told_twice s.fault_told (cut_of_piece s piece).cause (run_of (stream_after s piece) pieces).cause)
 
 -- what the end of the log's bytes tells is what it tells behind the bytes as a whole
-pub pieces_end : (h : Header) (rec at done : ℕ) (pieces : List (List ℕ)) → end_fault (run_of (begun h rec at done) pieces).stream ≡ missing_after h (cut_off h (h.count - done) (record { rec = rec; at = at; done = done }) (concat pieces))
+pub pieces_end : (h : Header) (rec at done : ℕ) (pieces : List (List ℕ)) → end_fault (run_of (stream_at h rec at done) pieces).stream ≡ missing_after h (cut_off h (h.count - done) (record { rec = rec; at = at; done = done }) (concat pieces))
 pieces_end h rec at done pieces =
-    let s : Stream = begun h rec at done in
+    let s : Stream = stream_at h rec at done in
     let r : Run = run_of s pieces in
     ap (λ (o : Bool). if o || (r.stream.place.done == r.stream.head.count) then None else Some cuts.Truncated) (run_told s pieces)
     ∙ ap (λ (g : Header). if is_some r.cause || (r.stream.place.done == g.count) then None else Some cuts.Truncated) (run_head s pieces)
@@ -79,12 +79,12 @@ pieces_end h rec at done pieces =
 
 -- the records of a log are those that its pieces give, decoded, and then the fault that feeding or the end tells
 pub pieces_read : (h : Header) (rec at done : ℕ) (pieces : List (List ℕ)) → done ≤ h.count
-    → records_in h (h.count - done) (concat pieces) ≡ decoded (run_of (begun h rec at done) pieces).raws (option_or (run_of (begun h rec at done) pieces).cause (end_fault (run_of (begun h rec at done) pieces).stream))
+    → records_in h (h.count - done) (concat pieces) ≡ records_of_raws (run_of (stream_at h rec at done) pieces).raws (option_or (run_of (stream_at h rec at done) pieces).cause (end_fault (run_of (stream_at h rec at done) pieces).stream))
 pieces_read h rec at done pieces le =
-    let r : Run = run_of (begun h rec at done) pieces in
+    let r : Run = run_of (stream_at h rec at done) pieces in
     read_as_cut h (h.count - done) (record { rec = rec; at = at; done = done }) (concat pieces) (omega arith)
-    ∙ ap (λ (o : Option CutFault). decoded (cut_off h (h.count - done) (record { rec = rec; at = at; done = done }) (concat pieces)).raws (option_or (cut_off h (h.count - done) (record { rec = rec; at = at; done = done }) (concat pieces)).cause o)) (sym (pieces_end h rec at done pieces))
-    ∙ ap (λ (c : Cut). decoded c.raws (option_or c.cause (end_fault r.stream))) (sym (pieces_give h rec at done pieces))
+    ∙ ap (λ (o : Option CutFault). records_of_raws (cut_off h (h.count - done) (record { rec = rec; at = at; done = done }) (concat pieces)).raws (option_or (cut_off h (h.count - done) (record { rec = rec; at = at; done = done }) (concat pieces)).cause o)) (sym (pieces_end h rec at done pieces))
+    ∙ ap (λ (c : Cut). records_of_raws c.raws (option_or c.cause (end_fault r.stream))) (sym (pieces_give h rec at done pieces))
 
 -- what a cutter gives of its bytes stands one behind the other from its place on
 pub framed_at : (s : Stream) (h : Header) (p : LogPlace) (bytes : List ℕ) (c : Cut) (raws : List Raw) → p.done ≤ h.count → cut_off h (h.count - p.done) p bytes ≡ c → raws ≡ c.raws → h ≡ s.head → p ≡ s.place → AreFramed s.head s.place raws

@@ -10,11 +10,11 @@ use Rattle.redo_wire.specs.declared.raw.Raw.{Raw}
 use Rattle.redo_wire.specs.declared.cutting.LogPlace.{LogPlace}
 
 -- the place behind a record of these bytes
-abbrev pub behind : LogPlace → List ℕ → LogPlace
-behind p bytes = record { rec = p.rec + 1; at = p.at + length bytes; done = p.done + 1 }
+abbrev pub log_place_behind : LogPlace → List ℕ → LogPlace
+log_place_behind p bytes = record { rec = p.rec + 1; at = p.at + length bytes; done = p.done + 1 }
 
-abbrev pub raw_at : Header → LogPlace → List ℕ → Raw
-raw_at h p bytes = record { rec = p.rec; head = h; end = p.at + length bytes; done = p.done + 1; bytes = bytes }
+abbrev pub raw_of_bytes : Header → LogPlace → List ℕ → Raw
+raw_of_bytes h p bytes = record { rec = p.rec; head = h; end = p.at + length bytes; done = p.done + 1; bytes = bytes }
 
 -- the records that bytes give, the place behind them, the bytes that are left, and the first fault
 pub record Cut : Type 0 where
@@ -35,8 +35,8 @@ abbrev pub left_after : Option CutFault → List ℕ → List ℕ
 left_after None bytes = bytes
 left_after (Some fault) bytes = []
 
-abbrev pub stopped : CutFault → LogPlace → List ℕ → Cut
-stopped fault p bytes = record { raws = []; place = p; left = left_after (told_of fault) bytes; cause = told_of fault }
+abbrev pub cut_ended_by : CutFault → LogPlace → List ℕ → Cut
+cut_ended_by fault p bytes = record { raws = []; place = p; left = left_after (told_of fault) bytes; cause = told_of fault }
 
 abbrev pub with_raw : Raw → Cut → Cut
 with_raw raw c = record { raws = raw ∷ c.raws; place = c.place; left = c.left; cause = c.cause }
@@ -46,14 +46,14 @@ abbrev pub with_raws : List Raw → Cut → Cut
 with_raws before c = record { raws = before ++ c.raws; place = c.place; left = c.left; cause = c.cause }
 
 abbrev pub cut_or : Result (List ℕ × List ℕ) CutFault → LogPlace → List ℕ → (List ℕ → List ℕ → Cut) → Cut
-cut_or (Err fault) p bytes next = stopped fault p bytes
+cut_or (Err fault) p bytes next = cut_ended_by fault p bytes
 cut_or (Ok found) p bytes next = next found.0 found.1
 
 -- so many records off these bytes, and nothing behind them
 abbrev pub cut_off : Header → ℕ → LogPlace → List ℕ → Cut
 cut_off h zero p [] = record { raws = []; place = p; left = []; cause = None }
-cut_off h zero p (b ∷ bytes) = stopped cuts.Trailing p (b ∷ bytes)
-cut_off h (suc count) p bytes = cut_or (first_record bytes) p bytes (λ found rest. with_raw (raw_at h p found) (cut_off h count (behind p found) rest))
+cut_off h zero p (b ∷ bytes) = cut_ended_by cuts.Trailing p (b ∷ bytes)
+cut_off h (suc count) p bytes = cut_or (first_record bytes) p bytes (λ found rest. with_raw (raw_of_bytes h p found) (cut_off h count (log_place_behind p found) rest))
 
 -- ---- a cutter
 
@@ -65,32 +65,32 @@ pub record Stream : Type 0 where
   pub fault_told : Bool
 
 -- the numbers of the records that may still come fit their fields
-pub record IsReady (h : Header) (p : LogPlace) : Type 0 where
+pub record NumbersFit (h : Header) (p : LogPlace) : Type 0 where
   pub done : p.done ≤ h.count
   pub rec : p.rec + (h.count - p.done) < 2 ^ 64
   pub at : p.at + 65536 * (h.count - p.done) < 2 ^ 64
 
-abbrev pub begun : Header → ℕ → ℕ → ℕ → Stream
-begun h rec at done = record { head = h; place = record { rec = rec; at = at; done = done }; left = []; fault_told = false }
+abbrev pub stream_at : Header → ℕ → ℕ → ℕ → Stream
+stream_at h rec at done = record { head = h; place = record { rec = rec; at = at; done = done }; left = []; fault_told = false }
 
-abbrev pub nothing : Stream → Cut
-nothing s = record { raws = []; place = s.place; left = s.left; cause = None }
+abbrev pub empty_cut : Stream → Cut
+empty_cut s = record { raws = []; place = s.place; left = s.left; cause = None }
 
-abbrev pub given_or : Bool → Stream → List ℕ → Cut
-given_or true s bytes = nothing s
-given_or false s bytes = cut_off s.head (s.head.count - s.place.done) s.place (s.left ++ bytes)
+abbrev pub cut_unless_told : Bool → Stream → List ℕ → Cut
+cut_unless_told true s bytes = empty_cut s
+cut_unless_told false s bytes = cut_off s.head (s.head.count - s.place.done) s.place (s.left ++ bytes)
 
 -- what a stream gives for these bytes, which follow on those before; after a fault nothing
-abbrev pub given : Stream → List ℕ → Cut
-given s bytes = given_or s.fault_told s bytes
+abbrev pub cut_of_piece : Stream → List ℕ → Cut
+cut_of_piece s bytes = cut_unless_told s.fault_told s bytes
 
 abbrev pub told_after : Bool → Option CutFault → Bool
 told_after true cause = true
 told_after false cause = is_some cause
 
 -- the stream after these bytes
-abbrev pub fed : Stream → List ℕ → Stream
-fed s bytes = record { head = s.head; place = (given s bytes).place; left = (given s bytes).left; fault_told = told_after s.fault_told (given s bytes).cause }
+abbrev pub stream_after : Stream → List ℕ → Stream
+stream_after s bytes = record { head = s.head; place = (cut_of_piece s bytes).place; left = (cut_of_piece s bytes).left; fault_told = told_after s.fault_told (cut_of_piece s bytes).cause }
 
 -- the records of pieces one after the other, the first fault among them, and the stream behind them
 pub record Run : Type 0 where
@@ -101,12 +101,12 @@ pub record Run : Type 0 where
 abbrev pub run_of : Stream → List (List ℕ) → Run
 run_of s [] = record { raws = []; cause = None; stream = s }
 run_of s (piece ∷ pieces) =
-    let later = run_of (fed s piece) pieces in
-    record { raws = (given s piece).raws ++ later.raws; cause = option_or (given s piece).cause later.cause; stream = later.stream }
+    let later = run_of (stream_after s piece) pieces in
+    record { raws = (cut_of_piece s piece).raws ++ later.raws; cause = option_or (cut_of_piece s piece).cause later.cause; stream = later.stream }
 
 -- one cut after another
-abbrev pub joined : Cut → Cut → Cut
-joined c d = record { raws = c.raws ++ d.raws; place = d.place; left = d.left; cause = option_or c.cause d.cause }
+abbrev pub joined_cut : Cut → Cut → Cut
+joined_cut c d = record { raws = c.raws ++ d.raws; place = d.place; left = d.left; cause = option_or c.cause d.cause }
 
 -- what a run gave, as one cut
 abbrev pub as_cut : Run → Cut

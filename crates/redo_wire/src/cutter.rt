@@ -6,7 +6,7 @@
 //! to where it is kept; only one that two pieces share is put together first.
 ghost use Rattle.std.specs.Prelude.{◌≡◌, ◌+◌, ◌-◌, ◌*◌, ◌≤◌, ◌<◌, ◌^◌, [], length, None, IfOk, OnOk, OnErr};
 ghost use Rattle.redo_wire.specs.Records.{AreFramed};
-ghost use Rattle.redo_wire.specs.Stream.{begun, given, fed, end_fault};
+ghost use Rattle.redo_wire.specs.Stream.{stream_at, cut_of_piece, stream_after, end_fault};
 
 use crate::cutting::{LogPlace, Taken, is_front, taken_behind};
 use crate::numbers::byte_in;
@@ -26,13 +26,13 @@ pub struct Cutter {
 }
 
 impl Model for Cutter {
-    ghost use Rattle.redo_wire.specs.Stream.{Stream, IsReady};
+    ghost use Rattle.redo_wire.specs.Stream.{Stream, NumbersFit};
 
     ghost Value = { Stream };
 
     ghost view = { λ c. record { head = c.head; place = c.place; left = c.left.items; fault_told = c.fault_told } };
 
-    ghost invariant = { λ c. IsReady c.head c.place };
+    ghost invariant = { λ c. NumbersFit c.head c.place };
 }
 
 fn byte_across(front: &[u8], rest: &[u8], at: usize) -> u8 {
@@ -82,7 +82,7 @@ impl Cutter {
         requires done { done ≤ head.count }
         requires at { at < 2 ^ 63 }
         requires rec { rec + (head.count - done) < 2 ^ 64 }
-        ensures begun { result ≡ begun head rec at done }
+        ensures begun { result ≡ stream_at head rec at done }
     {
         Cutter {
             head,
@@ -95,11 +95,11 @@ impl Cutter {
     /// Takes the next bytes of the log, and gives the records that they complete, and the first fault. After a
     /// fault it gives nothing more. The cost is linear in the bytes of the piece and of the records that it completes.
     pub fn feed(&mut self, piece: &[u8]) -> Result<Fed, NoMemory>
-        ensures raws { IfOk result (λ x. x.raws ≡ (given self.old piece.now).raws) }
-        ensures cause { IfOk result (λ x. x.cause ≡ (given self.old piece.now).cause) }
+        ensures raws { IfOk result (λ x. x.raws ≡ (cut_of_piece self.old piece.now).raws) }
+        ensures cause { IfOk result (λ x. x.cause ≡ (cut_of_piece self.old piece.now).cause) }
         // Records that stand one behind the other, each whole.
         ensures framed { IfOk result (λ x. AreFramed self.old.head self.old.place x.raws) }
-        ensures next { OnOk result (self.new ≡ fed self.old piece.now) }
+        ensures next { OnOk result (self.new ≡ stream_after self.old piece.now) }
         ensures unchanged { OnErr result (self.new ≡ self.old) }
     {
         let alloc = *self.left.allocator();

@@ -5,7 +5,7 @@
 ghost use Rattle.std.specs.Prelude.{◌≡◌, ◌+◌, ◌-◌, ◌*◌, ◌≤◌, ◌<◌, ◌^◌, ◌++◌, [], ◌∷◌, length, take, drop, MatchResult, IfOk, IsTrue, Ok, Err, None, Some, ◌==◌, if◌then◌else◌};
 ghost use Rattle.redo_vec.specs.Cutting.{first_record};
 ghost use Rattle.rl_value.specs.declared.cause.CutFault.TheVariants.{Truncated, Trailing};
-ghost use Rattle.redo_wire.specs.Stream.{IsReady, told_of, raw_at, behind, left_after, cut_off, with_raws};
+ghost use Rattle.redo_wire.specs.Stream.{NumbersFit, told_of, raw_of_bytes, log_place_behind, left_after, cut_off, with_raws};
 ghost use Rattle.redo_wire.specs.Taken.{cut_of_taken};
 
 use crate::numbers::{u16_in, u32_in};
@@ -86,7 +86,7 @@ fn told(fault: CutFault) -> Option<CutFault>
 fn raw_of(alloc: Global, head: Header, place: LogPlace, bytes: &[u8]) -> Result<Raw, NoMemory>
     requires at { place.at + length bytes.now < 2 ^ 64 }
     requires done { place.done + 1 < 2 ^ 32 }
-    ensures { IfOk result (λ raw. raw ≡ raw_at head place bytes.now) }
+    ensures { IfOk result (λ raw. raw ≡ raw_of_bytes head place bytes.now) }
 {
     match Vec::from_slice(alloc, bytes) {
         Ok(kept) => Ok(Raw {
@@ -151,9 +151,9 @@ pub(crate) fn taken_off(
     before: Vec<Raw>,
     bytes: &[u8],
 ) -> Result<Taken, NoMemory>
-    requires { IsReady head start }
+    requires { NumbersFit head start }
     ensures cut { IfOk result (λ taken. with_raws before.items (cut_off head (head.count - start.done) start bytes.now) ≡ cut_of_taken taken) }
-    ensures ready { IfOk result (λ taken. IsReady head taken.place) }
+    ensures ready { IfOk result (λ taken. NumbersFit head taken.place) }
 {
     let mut raws = before;
     let mut place = start;
@@ -207,7 +207,7 @@ fn is_truncated(bytes: &[u8]) -> bool
 fn first(alloc: Global, head: Header, place: LogPlace, bytes: &[u8]) -> Result<Vec<Raw>, NoMemory>
     requires at { place.at + length bytes.now < 2 ^ 64 }
     requires done { place.done + 1 < 2 ^ 32 }
-    ensures { IfOk result (λ raws. raws.items ≡ raw_at head place bytes.now ∷ []) }
+    ensures { IfOk result (λ raws. raws.items ≡ raw_of_bytes head place bytes.now ∷ []) }
 {
     let raw = raw_of(alloc, head, place, bytes)?;
     let mut raws = Vec::new(alloc);
@@ -237,9 +237,9 @@ pub(crate) fn taken_behind(
     waiting: &[u8],
     rest: &[u8],
 ) -> Result<Taken, NoMemory>
-    requires { IsReady head start }
+    requires { NumbersFit head start }
     ensures cut { IfOk result (λ taken. cut_off head (head.count - start.done) start (waiting.now ++ rest.now) ≡ cut_of_taken taken) }
-    ensures ready { IfOk result (λ taken. IsReady head taken.place) }
+    ensures ready { IfOk result (λ taken. NumbersFit head taken.place) }
 {
     if waiting.is_empty() {
         return taken_off(alloc, head, start, Vec::new(alloc), rest);

@@ -4,7 +4,7 @@ use Rattle.std.specs.Prelude.{◌&&◌, ◌==◌, IsTrue}
 use Rattle.std.proofs.lemmas.Bool.Decides.{nat_tests}
 use Rattle.std.proofs.Common.{arith}
 use Rattle.circular_buffer.specs.Buffer.{keep_last}
-use Rattle.rl_base.specs.Events.{next_number, follow, are_numbered}
+use Rattle.rl_base.specs.Events.{next_event_number, follow, are_numbered}
 
 both : (a b : Bool) → a ≡ true → b ≡ true → (a && b) ≡ true
 both true b p q = q
@@ -21,15 +21,15 @@ second false b p = cc
 same : (n : ℕ) → (n == n) ≡ true
 same n = grind (arith, nat_tests)
 
-next_too : (a b : ℕ) → (a == b) ≡ true → (next_number b == next_number a) ≡ true
-next_too a b h = let e : a ≡ b = grind (arith, nat_tests) in rw e (same (next_number b))
+next_too : (a b : ℕ) → (a == b) ≡ true → (next_event_number b == next_event_number a) ≡ true
+next_too a b h = let e : a ≡ b = grind (arith, nat_tests) in rw e (same (next_event_number b))
 
-one_more : (c b : ℕ) (line : List ℕ) (es : List (ℕ × List ℕ)) → follow c b es ≡ true → follow (next_number c) b (es ++ (next_number c, line) ∷ []) ≡ true
-one_more c b line [] h = both _ _ (next_too b c h) (same (next_number c))
+one_more : (c b : ℕ) (line : List ℕ) (es : List (ℕ × List ℕ)) → follow c b es ≡ true → follow (next_event_number c) b (es ++ (next_event_number c, line) ∷ []) ≡ true
+one_more c b line [] h = both _ _ (next_too b c h) (same (next_event_number c))
 one_more c b line (e ∷ es) h = both _ _ (first _ _ h) (one_more c e.0 line es (second _ _ h))
 
-appended : (c : ℕ) (line : List ℕ) (es : List (ℕ × List ℕ)) → are_numbered c es ≡ true → are_numbered (next_number c) (es ++ (next_number c, line) ∷ []) ≡ true
-appended c line [] h = same (next_number c)
+appended : (c : ℕ) (line : List ℕ) (es : List (ℕ × List ℕ)) → are_numbered c es ≡ true → are_numbered (next_event_number c) (es ++ (next_event_number c, line) ∷ []) ≡ true
+appended c line [] h = same (next_event_number c)
 appended c line (e ∷ es) h = one_more c e.0 line es h
 
 rest : (c : ℕ) (e : ℕ × List ℕ) (es : List (ℕ × List ℕ)) → are_numbered c (e ∷ es) ≡ true → are_numbered c es ≡ true
@@ -42,5 +42,5 @@ dropped (suc n) c [] h = refl
 dropped (suc n) c (e ∷ es) h = dropped n c es (rest c e es h)
 
 -- the numbers after one more event
-pub numbered-noted : (c : ℕ) (line : List ℕ) (es : List (ℕ × List ℕ)) → IsTrue (are_numbered c es) → IsTrue (are_numbered (next_number c) (keep_last 100 (es ++ (next_number c, line) ∷ [])))
-numbered-noted c line es h = dropped (length (es ++ (next_number c, line) ∷ []) - 100) (next_number c) (es ++ (next_number c, line) ∷ []) (appended c line es h)
+pub numbered-noted : (c : ℕ) (line : List ℕ) (es : List (ℕ × List ℕ)) → IsTrue (are_numbered c es) → IsTrue (are_numbered (next_event_number c) (keep_last 100 (es ++ (next_event_number c, line) ∷ [])))
+numbered-noted c line es h = dropped (length (es ++ (next_event_number c, line) ∷ []) - 100) (next_event_number c) (es ++ (next_event_number c, line) ∷ []) (appended c line es h)

@@ -8,21 +8,21 @@ pub record Noted : Type 0 where
   pub lines : List (ℕ × List ℕ)
 
 -- before the first event
-abbrev pub none_noted : Noted
-none_noted = record { count = 0; lines = [] }
+abbrev pub no_events : Noted
+no_events = record { count = 0; lines = [] }
 
 -- the next number
-abbrev pub next_number : ℕ → ℕ
-next_number n = min (n + 1) (2 ^ 64 - 1)
+abbrev pub next_event_number : ℕ → ℕ
+next_event_number n = min (n + 1) (2 ^ 64 - 1)
 
 -- one event more
-abbrev pub noted : List ℕ → Noted → Noted
-noted line e = record { count = next_number e.count; lines = keep_last 100 (e.lines ++ (next_number e.count, line) ∷ []) }
+abbrev pub with_event : List ℕ → Noted → Noted
+with_event line e = record { count = next_event_number e.count; lines = keep_last 100 (e.lines ++ (next_event_number e.count, line) ∷ []) }
 
 -- these lines go on behind the number before, each with the next one, and the last has the number end
 abbrev pub follow : ℕ → ℕ → List (ℕ × List ℕ) → Bool
 follow end before [] = before == end
-follow end before (e ∷ es) = (e.0 == next_number before) && follow end e.0 es
+follow end before (e ∷ es) = (e.0 == next_event_number before) && follow end e.0 es
 
 -- each line has the number that follows the one before it, and the last has the count
 abbrev pub are_numbered : ℕ → List (ℕ × List ℕ) → Bool

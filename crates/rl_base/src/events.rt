@@ -5,7 +5,7 @@
 ghost use Rattle.std.specs.Prelude.{◌≡◌, ◌+◌, ◌≤◌, ◌++◌, ℕ, List, length, IfOk, OnOk, IsTrue};
 ghost use Rattle.circular_buffer.specs.Buffer.{buffer};
 ghost use Rattle.std.specs.Map.Iter.{ShowsInOrder, deref};
-ghost use Rattle.rl_base.specs.Events.{Noted, none_noted, noted, are_numbered};
+ghost use Rattle.rl_base.specs.Events.{Noted, no_events, with_event, are_numbered};
 
 use crate::line::Line;
 use circular_buffer::{HeapCircularBuffer, Iter};
@@ -40,7 +40,7 @@ impl Model for Events {
 impl Events {
     /// No event so far.
     pub fn new(alloc: Global) -> Result<Events, NoMemory>
-        ensures empty { IfOk result (λ events. events ≡ none_noted) }
+        ensures empty { IfOk result (λ events. events ≡ no_events) }
     {
         match HeapCircularBuffer::with_capacity(alloc, MAX_EVENTS) {
             Ok(ring) => Ok(Events { count: 0, ring }),
@@ -50,7 +50,7 @@ impl Events {
 
     /// Notes a line under the next number, from 1. Of more than 100 the oldest is dropped. It takes no memory.
     pub fn note(&mut self, line: Line)
-        ensures noted { self.new ≡ noted line self.old }
+        ensures noted { self.new ≡ with_event line self.old }
     {
         self.count = self.count.saturating_add(1);
         let _ = self.ring.push_back((self.count, line));

@@ -12,8 +12,8 @@ pub record Counted : Type 0 where
   pub faults : ℕ
 
 -- before the first call
-abbrev pub uncalled : List ℕ → Counted
-uncalled fails = record { fails = fails; made = 0; faults = 0 }
+abbrev pub before_calls : List ℕ → Counted
+before_calls fails = record { fails = fails; made = 0; faults = 0 }
 
 -- one more, as far as 64 bits go
 abbrev pub one_more : ℕ → ℕ
@@ -24,16 +24,16 @@ abbrev pub fails_next : Counted → Bool
 fails_next c = list_any (λ n. n == one_more c.made) c.fails
 
 -- one more failure, of the call that was counted last
-abbrev pub faulted : Counted → Counted
-faulted c = record { fails = c.fails; made = c.made; faults = one_more c.faults }
+abbrev pub after_fault : Counted → Counted
+after_fault c = record { fails = c.fails; made = c.made; faults = one_more c.faults }
 
 -- after a call that is not to fail, whatever its number is
 abbrev pub passed : Counted → Counted
 passed c = record { fails = c.fails; made = one_more c.made; faults = c.faults }
 
 -- after a call
-abbrev pub called : Counted → Counted
-called c = record { fails = c.fails; made = one_more c.made; faults = if fails_next c then one_more c.faults else c.faults }
+abbrev pub after_call : Counted → Counted
+after_call c = record { fails = c.fails; made = one_more c.made; faults = if fails_next c then one_more c.faults else c.faults }
 
 -- unless memory wanted
 abbrev pub UnlessMemory : {T : Type 0} → Result T PortFault → Type 0 → Type 0

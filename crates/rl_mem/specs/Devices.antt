@@ -24,8 +24,8 @@ pub record NumberedState : Type 0 where
   pub calls : Counted
 
 -- what lies under this number
-abbrev pub under : Numbered → ℕ → Option (List ℕ)
-under held number = entries.find nat_cmp number held
+abbrev pub bytes_under : Numbered → ℕ → Option (List ℕ)
+bytes_under held number = entries.find nat_cmp number held
 
 -- one more, in the place of what lies there
 abbrev pub with_one : ℕ → List ℕ → Numbered → Numbered

@@ -4,8 +4,8 @@ ghost use Rattle.std.specs.Prelude.{if◌then◌else◌, ◌&&◌, is_some, ◌�
 ghost use Rattle.std.specs.Option.{option_map, option_copied};
 ghost use Rattle.std.specs.Io.{ReadsAtMost};
 ghost use Rattle.rl_ports.specs.Faults.{HasCause, NoneCounted, ReadsFrom, ReadsLog, ReadsNothing};
-ghost use Rattle.rl_mem.specs.Calls.{uncalled, fails_next, called, passed};
-ghost use Rattle.rl_mem.specs.Devices.{under, with_one};
+ghost use Rattle.rl_mem.specs.Calls.{before_calls, fails_next, after_call, passed};
+ghost use Rattle.rl_mem.specs.Devices.{bytes_under, with_one};
 
 use crate::calls::Calls;
 use crate::room::copy_front;
@@ -53,13 +53,13 @@ impl SureArchive {
 
     #[tactic(auto, using(crate::proofs::Maps::maps))]
     fn log(&self, seq: u32) -> Option<&Bytes>
-        ensures { option_copied result ≡ under self.now seq }
+        ensures { option_copied result ≡ bytes_under self.now seq }
     {
         self.logs.get(&seq)
     }
 
     fn log_length(&self, seq: u32) -> Option<u64>
-        ensures { result ≡ option_map length (under self.now seq) }
+        ensures { result ≡ option_map length (bytes_under self.now seq) }
     {
         match self.log(seq) {
             None => None,
@@ -69,8 +69,8 @@ impl SureArchive {
 
     fn read_log(&self, seq: u32, at: u64, into: &mut [u8]) -> usize
         ensures bound { result ≤ length into.new }
-        ensures bytes { ReadsFrom (under self.now seq) at into.new result }
-        ensures absent { under self.now seq ≡ None → result ≡ 0 }
+        ensures bytes { ReadsFrom (bytes_under self.now seq) at into.new result }
+        ensures absent { bytes_under self.now seq ≡ None → result ≡ 0 }
     {
         match self.log(seq) {
             None => 0,
@@ -82,7 +82,7 @@ impl SureArchive {
 impl Archive for SureArchive {
     ghost tells = { true };
 
-    ghost logs = { λ a. Some (under a) };
+    ghost logs = { λ a. Some (bytes_under a) };
 
     ghost counts_failures_alone = { true };
 
@@ -118,7 +118,7 @@ impl MemArchive {
     /// An archive of no logs. Its calls of these numbers fail, counted from 1. It takes no memory.
     pub fn new(alloc: Global, fails: Vec<u64>) -> MemArchive
         ensures empty { result.held ≡ [] }
-        ensures calls { result.calls ≡ uncalled fails.items }
+        ensures calls { result.calls ≡ before_calls fails.items }
     {
         MemArchive {
             archive: SureArchive::new(alloc),
@@ -139,7 +139,7 @@ impl MemArchive {
 impl Archive for MemArchive {
     ghost tells = { true };
 
-    ghost logs = { λ a. Some (under a.held) };
+    ghost logs = { λ a. Some (bytes_under a.held) };
 
     ghost counts_failures_alone = { true };
 
@@ -149,10 +149,10 @@ impl Archive for MemArchive {
 
     fn length(&mut self, seq: u32) -> Result<Option<u64>, Failed>
         ensures fails { IsErr result ↔ IsTrue (fails_next self.old.calls) }
-        ensures counted { self.new.calls ≡ called self.old.calls }
+        ensures counted { self.new.calls ≡ after_call self.old.calls }
         ensures held { self.new.held ≡ self.old.held }
-        ensures length { IfOk result (λ found. found ≡ option_map length (under self.old.held seq)) }
-        ensures same { Some (under self.new.held) ≡ Some (under self.old.held) }
+        ensures length { IfOk result (λ found. found ≡ option_map length (bytes_under self.old.held seq)) }
+        ensures same { Some (bytes_under self.new.held) ≡ Some (bytes_under self.old.held) }
         ensures alone { OnOk result (NoneCounted true self.old.calls.faults self.new.calls.faults) }
         ensures cause { HasCause self.old.calls.faults self.new.calls.faults result }
     {
@@ -164,13 +164,13 @@ impl Archive for MemArchive {
 
     /// A read of a log that is not there is a call, and doesn't fail even where it is told to.
     fn read(&mut self, seq: u32, at: u64, into: &mut [u8]) -> Result<usize, Failed>
-        ensures fails { IsErr result ↔ IsTrue (is_some (under self.old.held seq) && fails_next self.old.calls) }
-        ensures counted { self.new.calls ≡ (if is_some (under self.old.held seq) then called self.old.calls else passed self.old.calls) }
+        ensures fails { IsErr result ↔ IsTrue (is_some (bytes_under self.old.held seq) && fails_next self.old.calls) }
+        ensures counted { self.new.calls ≡ (if is_some (bytes_under self.old.held seq) then after_call self.old.calls else passed self.old.calls) }
         ensures held { self.new.held ≡ self.old.held }
         ensures bound { ReadsAtMost result into.new }
-        ensures bytes { IfOk result (ReadsFrom (under self.old.held seq) at into.new) }
-        ensures absent { ReadsNothing (under self.old.held seq) result self.old.calls.faults self.new.calls.faults }
-        ensures same { Some (under self.new.held) ≡ Some (under self.old.held) }
+        ensures bytes { IfOk result (ReadsFrom (bytes_under self.old.held seq) at into.new) }
+        ensures absent { ReadsNothing (bytes_under self.old.held seq) result self.old.calls.faults self.new.calls.faults }
+        ensures same { Some (bytes_under self.new.held) ≡ Some (bytes_under self.old.held) }
         ensures alone { OnOk result (NoneCounted true self.old.calls.faults self.new.calls.faults) }
         ensures cause { HasCause self.old.calls.faults self.new.calls.faults result }
     {

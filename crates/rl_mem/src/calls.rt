@@ -2,7 +2,7 @@
 
 ghost use Rattle.std.specs.Prelude.{◌≡◌, ◌<◌, ◌^◌, if◌then◌else◌, ◌==◌};
 ghost use Rattle.std.specs.List.{list_any};
-ghost use Rattle.rl_mem.specs.Calls.{uncalled, fails_next, called, faulted, passed, one_more};
+ghost use Rattle.rl_mem.specs.Calls.{before_calls, fails_next, after_call, after_fault, passed, one_more};
 
 use std::marker::Model;
 
@@ -24,7 +24,7 @@ impl Model for Calls {
 
 impl Calls {
     pub fn of(fails: Vec<u64>) -> Calls
-        ensures { result ≡ uncalled fails.items }
+        ensures { result ≡ before_calls fails.items }
     {
         Calls {
             fails,
@@ -36,7 +36,7 @@ impl Calls {
     /// Counts a call, and says whether it is to fail.
     pub fn next(&mut self) -> bool
         ensures fails { result ≡ fails_next self.old }
-        ensures counted { self.new ≡ called self.old }
+        ensures counted { self.new ≡ after_call self.old }
         ensures within { self.old.faults < 2 ^ 64 }
     {
         let number = self.made.saturating_add(1);
@@ -62,7 +62,7 @@ impl Calls {
 
     /// Counts a failure of the call that was counted last.
     pub fn fault(&mut self)
-        ensures counted { self.new ≡ faulted self.old }
+        ensures counted { self.new ≡ after_fault self.old }
         ensures within { self.old.faults < 2 ^ 64 }
     {
         self.faults = self.faults.saturating_add(1);

@@ -7,7 +7,7 @@ ghost use Rattle.std.specs.Prelude.{◌≡◌, ◌<◌, ◌^◌, ◌⊎◌, [], 
 ghost use Rattle.std.specs.Option.{option_map};
 ghost use Rattle.rl_ports.specs.Faults.{HasPortCause, NoneCounted, UnlessFailed};
 ghost use Rattle.rl_ports.specs.Store.{is_store, have_keys, after_batch, next_pair};
-ghost use Rattle.rl_mem.specs.Calls.{uncalled, fails_next, called, passed, UnlessMemory};
+ghost use Rattle.rl_mem.specs.Calls.{before_calls, fails_next, after_call, passed, UnlessMemory};
 
 use crate::calls::Calls;
 use crate::rows::{Row, do_items, pair_after};
@@ -97,7 +97,7 @@ impl MemKeeper {
     /// where `keeps` is true. It takes no memory.
     pub fn new(alloc: Global, fails: Vec<u64>, keeps: bool) -> MemKeeper
         ensures empty { pairs_in result ≡ [] }
-        ensures calls { calls_of result ≡ uncalled fails.items }
+        ensures calls { calls_of result ≡ before_calls fails.items }
         ensures keeps { keeps_of result ≡ keeps }
     {
         MemKeeper {
@@ -114,7 +114,7 @@ impl MemKeeper {
         ensures refused { IsErr result }
         ensures kept { IsErrOf result PortFault.Failed → pairs_in self.new ≡ (if keeps_of self.old then after_batch batch.now (pairs_in self.old) else pairs_in self.old) }
         ensures memory { IsErrOf result PortFault.Memory → pairs_in self.new ≡ pairs_in self.old }
-        ensures counted { UnlessMemory result (calls_of self.new ≡ called (calls_of self.old)) }
+        ensures counted { UnlessMemory result (calls_of self.new ≡ after_call (calls_of self.old)) }
         ensures memory_counted { IsErrOf result PortFault.Memory → calls_of self.new ≡ passed (calls_of self.old) }
         ensures within { IsErrOf result PortFault.Failed → (calls_of self.old).faults < 2 ^ 64 }
         ensures keeps { keeps_of self.new ≡ keeps_of self.old }
@@ -151,7 +151,7 @@ impl Keeper for MemKeeper {
         ensures memory { IsErrOf result PortFault.Memory → Some (pairs_in self.new) ≡ Some (pairs_in self.old) }
         ensures fails_only_named { IsErrOf result PortFault.Failed → IsTrue (fails_next (calls_of self.old)) }
         ensures named_is_refused { IsTrue (fails_next (calls_of self.old)) → IsErr result }
-        ensures counted { UnlessMemory result (calls_of self.new ≡ called (calls_of self.old)) }
+        ensures counted { UnlessMemory result (calls_of self.new ≡ after_call (calls_of self.old)) }
         ensures memory_counted { IsErrOf result PortFault.Memory → calls_of self.new ≡ passed (calls_of self.old) }
         ensures keeps { keeps_of self.new ≡ keeps_of self.old }
         ensures alone { UnlessFailed result (NoneCounted true (calls_of self.old).faults (calls_of self.new).faults) }
@@ -172,7 +172,7 @@ impl Keeper for MemKeeper {
         ensures same { Some (pairs_in self.new) ≡ Some (pairs_in self.old) }
         ensures fails_only_named { IsErrOf result PortFault.Failed → IsTrue (fails_next (calls_of self.old)) }
         ensures named_is_refused { IsTrue (fails_next (calls_of self.old)) → IsErrOf result PortFault.Failed }
-        ensures counted { calls_of self.new ≡ called (calls_of self.old) }
+        ensures counted { calls_of self.new ≡ after_call (calls_of self.old) }
         ensures keeps { keeps_of self.new ≡ keeps_of self.old }
         ensures alone { UnlessFailed result (NoneCounted true (calls_of self.old).faults (calls_of self.new).faults) }
         ensures cause { HasPortCause (calls_of self.old).faults (calls_of self.new).faults result }

@@ -6,7 +6,7 @@ ghost use Rattle.std.specs.Prelude.{not, nat_lt, if◌then◌else◌, ◌&&◌, 
 ghost use Rattle.std.specs.Io.{WritesAtMost};
 ghost use Rattle.std.specs.Io.KnownBytes.{WriteAppends};
 ghost use Rattle.rl_ports.specs.Faults.{HasCause, CountsNothing, NoneCounted, TookSome};
-ghost use Rattle.rl_mem.specs.Calls.{called, faulted, uncalled, fails_next};
+ghost use Rattle.rl_mem.specs.Calls.{after_call, after_fault, before_calls, fails_next};
 
 use crate::calls::Calls;
 use rl_ports::{Failed, Sink};
@@ -38,7 +38,7 @@ impl MemSink {
     pub fn new(alloc: Global, room: usize, fails: Vec<u64>) -> Result<MemSink, NoMemory>
         ensures empty { IfOk result (λ sink. sink.bytes ≡ []) }
         ensures room { IfOk result (λ sink. sink.room ≡ room) }
-        ensures calls { IfOk result (λ sink. sink.calls ≡ uncalled fails.items) }
+        ensures calls { IfOk result (λ sink. sink.calls ≡ before_calls fails.items) }
     {
         match Vec::with_capacity(alloc, room) {
             Ok(bytes) => Ok(MemSink {
@@ -71,7 +71,7 @@ impl Sink for MemSink {
         ensures whole { IfOk result (λ count. count ≡ length from.now) }
         ensures room { self.new.room ≡ self.old.room }
         ensures counted { self.new.calls ≡ (if not (fails_next self.old.calls) && nat_lt self.old.room (length self.old.bytes + length from.now)
-            then faulted (called self.old.calls) else called self.old.calls) }
+            then after_fault (after_call self.old.calls) else after_call self.old.calls) }
         ensures bound { WritesAtMost result from.now }
         ensures bytes { WriteAppends (Some self.old.bytes) (Some self.new.bytes) result from.now }
         ensures nothing { CountsNothing self.old.calls.faults self.new.calls.faults result from.now }

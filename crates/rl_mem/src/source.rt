@@ -4,7 +4,7 @@ ghost use Rattle.std.specs.Prelude.{◌≡◌, ◌↔◌, ◌<◌, List, ℕ, So
 ghost use Rattle.std.specs.Io.{ReadsAtMost};
 ghost use Rattle.std.specs.Io.KnownBytes.{ReadConsumes};
 ghost use Rattle.rl_ports.specs.Faults.{HasCause, NoneCounted};
-ghost use Rattle.rl_mem.specs.Calls.{uncalled, fails_next, called};
+ghost use Rattle.rl_mem.specs.Calls.{before_calls, fails_next, after_call};
 
 use crate::calls::Calls;
 use crate::room::copy_front;
@@ -72,7 +72,7 @@ impl MemSource {
     /// A source that has these bytes left. Its calls of these numbers fail, counted from 1.
     pub fn new(bytes: Vec<u8>, fails: Vec<u64>) -> MemSource
         ensures left { result.bytes ≡ bytes.items }
-        ensures calls { result.calls ≡ uncalled fails.items }
+        ensures calls { result.calls ≡ before_calls fails.items }
     {
         MemSource {
             source: SureSource::new(bytes),
@@ -90,7 +90,7 @@ impl Source for MemSource {
 
     fn read(&mut self, into: &mut [u8]) -> Result<usize, Failed>
         ensures fails { IsErr result ↔ IsTrue (fails_next self.old.calls) }
-        ensures counted { self.new.calls ≡ called self.old.calls }
+        ensures counted { self.new.calls ≡ after_call self.old.calls }
         ensures bound { ReadsAtMost result into.new }
         ensures bytes { ReadConsumes (Some self.old.bytes) (Some self.new.bytes) result into.new }
         ensures alone { OnOk result (NoneCounted true self.old.calls.faults self.new.calls.faults) }

@@ -4,7 +4,7 @@ ghost use Rattle.std.specs.Prelude.{◌≡◌, ◌↔◌, ◌<◌, [], List, ℕ
 ghost use Rattle.std.specs.Option.{option_copied};
 ghost use Rattle.rl_ports.specs.Faults.{HasCause, HasPortCause, NoneCounted, UnlessFailed};
 ghost use Rattle.rl_ports.specs.Store.{chunk_of, with_chunk, without};
-ghost use Rattle.rl_mem.specs.Calls.{uncalled, fails_next, called};
+ghost use Rattle.rl_mem.specs.Calls.{before_calls, fails_next, after_call};
 
 use crate::calls::Calls;
 use rl_ports::{Failed, PortFault, Spill};
@@ -113,7 +113,7 @@ impl MemSpill {
     /// A store of no chunks. Its calls of these numbers fail, counted from 1. It takes no memory.
     pub fn new(alloc: Global, fails: Vec<u64>) -> MemSpill
         ensures empty { result.held ≡ [] }
-        ensures calls { result.calls ≡ uncalled fails.items }
+        ensures calls { result.calls ≡ before_calls fails.items }
     {
         MemSpill {
             spill: SureSpill::new(alloc),
@@ -135,7 +135,7 @@ impl Spill for MemSpill {
 
     fn put(&mut self, id: u64, bytes: &[u8]) -> Result<(), PortFault>
         ensures fails { IsErrOf result PortFault.Failed ↔ IsTrue (fails_next self.old.calls) }
-        ensures counted { self.new.calls ≡ called self.old.calls }
+        ensures counted { self.new.calls ≡ after_call self.old.calls }
         ensures put { OnOk result (Some self.new.held ≡ Some (with_chunk id bytes.now self.old.held)) }
         ensures unchanged { OnErr result (Some self.new.held ≡ Some self.old.held) }
         ensures alone { UnlessFailed result (NoneCounted true self.old.calls.faults self.new.calls.faults) }
@@ -150,7 +150,7 @@ impl Spill for MemSpill {
     fn get(&mut self, id: u64, into: &mut Vec<u8>) -> Result<(), PortFault>
         requires there { IsSome (chunk_of self.old.held id) }
         ensures fails { IsErrOf result PortFault.Failed ↔ IsTrue (fails_next self.old.calls) }
-        ensures counted { self.new.calls ≡ called self.old.calls }
+        ensures counted { self.new.calls ≡ after_call self.old.calls }
         ensures got { OnOk result (chunk_of self.old.held id ≡ Some into.new.items) }
         ensures same { Some self.new.held ≡ Some self.old.held }
         ensures alone { UnlessFailed result (NoneCounted true self.old.calls.faults self.new.calls.faults) }
@@ -164,7 +164,7 @@ impl Spill for MemSpill {
 
     fn drop_id(&mut self, id: u64) -> Result<(), Failed>
         ensures fails { IsErr result ↔ IsTrue (fails_next self.old.calls) }
-        ensures counted { self.new.calls ≡ called self.old.calls }
+        ensures counted { self.new.calls ≡ after_call self.old.calls }
         ensures dropped { OnOk result (Some self.new.held ≡ Some (without id self.old.held)) }
         ensures unchanged { OnErr result (Some self.new.held ≡ Some self.old.held) }
         ensures alone { OnOk result (NoneCounted true self.old.calls.faults self.new.calls.faults) }
@@ -178,7 +178,7 @@ impl Spill for MemSpill {
 
     fn clear(&mut self) -> Result<(), Failed>
         ensures fails { IsErr result ↔ IsTrue (fails_next self.old.calls) }
-        ensures counted { self.new.calls ≡ called self.old.calls }
+        ensures counted { self.new.calls ≡ after_call self.old.calls }
         ensures cleared { OnOk result (Some self.new.held ≡ Some []) }
         ensures unchanged { OnErr result (Some self.new.held ≡ Some self.old.held) }
         ensures alone { OnOk result (NoneCounted true self.old.calls.faults self.new.calls.faults) }

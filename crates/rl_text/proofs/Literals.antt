@@ -16,9 +16,9 @@ use lib.Signed.{mag}
 use Rattle.rl_value.specs.LiteralValue.{hex_value, with_pair, with_byte, unhexed, unquoted, text_value, raw_value, number_value}
 use Rattle.rl_value.specs.Text.{IsText, IsRaw}
 use Rattle.rl_value.specs.declared.value.Value.TheVariants.{Number, Text, Raw}
-use Rattle.rl_text.specs.Reading.{pair_value, quoted_step, behind}
+use Rattle.rl_text.specs.Reading.{pair_value, quoted_step, with_read}
 
-pub behind-more : (read : List ℕ) (b : ℕ) (rest : Option (List ℕ)) → behind (read ++ b ∷ []) rest ≡ behind read (with_byte b rest)
+pub behind-more : (read : List ℕ) (b : ℕ) (rest : Option (List ℕ)) → with_read (read ++ b ∷ []) rest ≡ with_read read (with_byte b rest)
 behind-more read b None = refl
 behind-more read b (Some bytes) = ap Some (append_assoc read (b ∷ []) bytes)
 

@@ -12,7 +12,7 @@ use Rattle.std.proofs.lemmas.Bool.Decides.{nat_tests}
 use Rattle.rl_base.specs.Lines.{is_line, is_inside}
 use Rattle.rl_value.specs.Literal.{literal}
 use Rattle.rl_value.specs.declared.value.Value.{Value}
-use Rattle.rl_text.specs.Joined.{joined}
+use Rattle.rl_text.specs.Joined.{literals_between}
 
 both : (a b : Bool) → IsTrue a → IsTrue b → IsTrue (a && b)
 both true b p q = q
@@ -34,7 +34,7 @@ line-signed_decimal (pos n) h = line-decimal n (omega arith)
 line-signed_decimal (negsuc n) h = line-decimal (suc n) (omega arith)
 
 -- the first value and each other with the byte before it are all values with the byte between them
-pub joined-join : (b : ℕ) (vs : List Value) → joined b vs ≡ join_with_byte b (map literal vs)
+pub joined-join : (b : ℕ) (vs : List Value) → literals_between b vs ≡ join_with_byte b (map literal vs)
 joined-join b [] = refl
 joined-join b (v ∷ []) = append-nil (literal v)
 joined-join b (v ∷ w ∷ ws) = ap (λ l. literal v ++ (b ∷ l)) (joined-join b (w ∷ ws))

@@ -5,10 +5,10 @@ use Rattle.rl_value.specs.Literal.{literal}
 use Rattle.rl_value.specs.declared.value.Value.{Value}
 
 -- the literals, the byte before each
-abbrev pub followed : ℕ → List Value → List ℕ
-followed between values = flat_map (λ v. between ∷ literal v) values
+abbrev pub literals_behind : ℕ → List Value → List ℕ
+literals_behind between values = flat_map (λ v. between ∷ literal v) values
 
 -- the literals, the byte between each and the next
-abbrev pub joined : ℕ → List Value → List ℕ
-joined between [] = []
-joined between (v ∷ vs) = literal v ++ followed between vs
+abbrev pub literals_between : ℕ → List Value → List ℕ
+literals_between between [] = []
+literals_between between (v ∷ vs) = literal v ++ literals_behind between vs

@@ -16,5 +16,5 @@ quoted_step true b = if b == quote then Some true else None
 quoted_step false b = if b == quote then Some false else if is_printed b then Some true else None
 
 -- what is still to be read, behind what was read
-abbrev pub behind : List ℕ → Option (List ℕ) → Option (List ℕ)
-behind read rest = option_map (λ bytes. read ++ bytes) rest
+abbrev pub with_read : List ℕ → Option (List ℕ) → Option (List ℕ)
+with_read read rest = option_map (λ bytes. read ++ bytes) rest

@@ -8,7 +8,7 @@ ghost use Rattle.std.specs.List.{list_all, flat_map};
 ghost use Rattle.std.specs.Fmt.{decimal, signed_decimal};
 ghost use Rattle.rl_value.specs.Literal.{literal, hex, hex_digit, quoted, quoted_byte, in_hex, is_printed, text_literal, row_text, key_text, xid_text, AreBytes, IsLiteralOf};
 ghost use Rattle.rl_value.specs.LiteralValue.{value_of_literal};
-ghost use Rattle.rl_text.specs.Joined.{joined, followed};
+ghost use Rattle.rl_text.specs.Joined.{literals_between, literals_behind};
 
 use rl_base::Line;
 use rl_value::{Key, NoMemory, Row, Value, Xid};
@@ -77,7 +77,7 @@ pub fn put_xid(alloc: Global, line: &mut Line, xid: Xid) -> Result<(), NoMemory>
 
 fn add_values(alloc: Global, text: &mut Line, between: u8, values: &[Value]) -> Result<(), NoMemory>
     requires visible { 32 ≤ between }
-    ensures { OnOk result (text.new ≡ text.old ++ joined between values.now) }
+    ensures { OnOk result (text.new ≡ text.old ++ literals_between between values.now) }
 {
     match values {
         [] => Ok(()),
@@ -90,7 +90,7 @@ fn add_values(alloc: Global, text: &mut Line, between: u8, values: &[Value]) -> 
 
 fn add_others(alloc: Global, text: &mut Line, between: u8, values: &[Value]) -> Result<(), NoMemory>
     requires visible { 32 ≤ between }
-    ensures { OnOk result (text.new ≡ text.old ++ followed between values.now) }
+    ensures { OnOk result (text.new ≡ text.old ++ literals_behind between values.now) }
 {
     for value in values {
         text.push(between)?;

@@ -10,7 +10,7 @@ ghost use Rattle.rl_value.specs.Literal.{AreBytes, IsLiteralOf};
 ghost use Rattle.rl_value.specs.Order.{same_bytes};
 ghost use Rattle.rl_value.specs.LiteralValue.{value_of_literal, value_of_first, hex_value, unhexed, unhexed_in_quotes, unquoted, text_value, raw_value, quoted_value, number_value};
 ghost use Rattle.rl_value.specs.declared.value.Value.{Value as AnyValue};
-ghost use Rattle.rl_text.specs.Reading.{pair_value, quoted_step, behind};
+ghost use Rattle.rl_text.specs.Reading.{pair_value, quoted_step, with_read};
 
 use crate::literal::{QUOTE, RAW_LETTER, TEXT_LETTER, may_be_printed};
 use rl_value::{Bin, Bytes, NoMemory, Txt, TxtFault, Value};
@@ -176,7 +176,7 @@ fn unhex(alloc: Global, bytes: &[u8]) -> Result<Option<Bytes>, NoMemory>
 /// Reads two digits as a byte; false where one of them is no digit.
 #[tactic(auto, using(crate::proofs::Literals::pairs))]
 fn read_pair(read: &mut Vec<u8>, high: u8, low: u8) -> Result<bool, NoMemory>
-    ensures next { IfOk result (λ read_one. IsTrue read_one → (rest : List ℕ) → behind read.new.items (unhexed rest) ≡ behind read.old.items (unhexed (high ∷ low ∷ rest))) }
+    ensures next { IfOk result (λ read_one. IsTrue read_one → (rest : List ℕ) → with_read read.new.items (unhexed rest) ≡ with_read read.old.items (unhexed (high ∷ low ∷ rest))) }
     ensures bad { IfOk result (λ read_one. read_one ≡ false → (rest : List ℕ) → unhexed (high ∷ low ∷ rest) ≡ None) }
 {
     let Some(byte) = byte_of(high, low) else {
@@ -237,7 +237,7 @@ fn unquote(alloc: Global, bytes: &[u8]) -> Result<Option<Bytes>, NoMemory>
 /// Reads a byte between quotes, and says whether it is a quote that may close the text; None where it may not stand.
 #[tactic(auto, using(crate::proofs::Literals::quotes))]
 fn read_step(read: &mut Vec<u8>, half: bool, byte: u8) -> Result<Option<bool>, NoMemory>
-    ensures next { IfOk result (λ next. IfSome next (λ after. (rest : List ℕ) → behind read.new.items (unquoted after rest) ≡ behind read.old.items (unquoted half (byte ∷ rest)))) }
+    ensures next { IfOk result (λ next. IfSome next (λ after. (rest : List ℕ) → with_read read.new.items (unquoted after rest) ≡ with_read read.old.items (unquoted half (byte ∷ rest)))) }
     ensures bad { IfOk result (λ next. IfNone next ((rest : List ℕ) → unquoted half (byte ∷ rest) ≡ None)) }
 {
     let Some(own) = step_of(half, byte) else {

@@ -17,7 +17,7 @@ use Rattle.redo_spec.specs.ChangeForm.{is_row_of}
 use Rattle.redo_spec.specs.Tables.{Rows, Table, values_at, owner_in, primary_key, named}
 use Rattle.redo_spec.specs.Effect.{taken_at, taken_by, exists_at, add_row}
 use Rattle.row_apply.specs.Soundness.{AreSoundRows, HaveOneOwner}
-use Rattle.row_apply.specs.Adding.{minus}
+use Rattle.row_apply.specs.Adding.{rows_without}
 use Rattle.row_apply.proofs.Orders.{row_is}
 use Rattle.row_apply.proofs.Slots.{to_T, from_T, sorted_minus}
 use Rattle.row_apply.proofs.Owners.{none_owns, left_was, one_owner-minus}
@@ -72,7 +72,7 @@ was_added t rows row after e =
 
 -- ---- rows stay sound
 
-pub sound-minus : (t : TableRow) (gone : Option (List Value)) (rows : Rows) → AreSoundRows t rows → AreSoundRows t (minus gone rows)
+pub sound-minus : (t : TableRow) (gone : Option (List Value)) (rows : Rows) → AreSoundRows t rows → AreSoundRows t (rows_without gone rows)
 sound-minus t gone rows s = record {
   rising = from_T _ (sorted_minus gone rows (to_T _ s.rising));
   keyed = λ key row e. s.keyed key row (left_was gone key row rows e).1;

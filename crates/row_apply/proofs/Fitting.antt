@@ -6,7 +6,7 @@ use Rattle.rl_value.specs.declared.value.Value.{Value}
 use Rattle.rl_value.specs.Text.{columns_rise}
 use Rattle.redo_vec.specs.declared.columns.Column.{Column}
 use Rattle.redo_vec.specs.declared.table.TableRow.{TableRow}
-use Rattle.redo_spec.specs.ConflictKeys.{cell_at}
+use Rattle.redo_spec.specs.ConflictKeys.{cell_of}
 use Rattle.redo_spec.specs.Dictionary.{numbers_from}
 use Rattle.redo_spec.specs.ChangeForm.{is_row_of, fits, fits_at, cells_fit, beyond}
 use Rattle.redo_spec.specs.Tables.{value_in}
@@ -79,11 +79,11 @@ values_first (suc n) [] v vs e = absurd (cc)
 values_first (suc n) (a ∷ row) v vs e = values_first n row v vs e
 
 cell_fits : (columns : List Column) (cells : List (ℕ × Value)) (n : ℕ) (c : Column) (old : Value) → slice_get columns n ≡ Some c → fits c old ≡ true →
-    list_all (λ cell. fits_at (slice_get columns cell.0) cell.1) cells ≡ true → fits c (unwrap_or (cell_at cells n) old) ≡ true
+    list_all (λ cell. fits_at (slice_get columns cell.0) cell.1) cells ≡ true → fits c (unwrap_or (cell_of cells n) old) ≡ true
 cell_fits columns [] n c old s f all = f
 cell_fits columns ((column, value) ∷ cells) n c old s f all =
     let g = both (fits_at (slice_get columns column) value) (list_all (λ (x : ℕ × Value). fits_at (slice_get columns x.0) x.1) cells) all in
-    elim (column == n) as (λ b. (column == n) ≡ b → fits c (unwrap_or (if b then Some value else cell_at cells n) old) ≡ true) [
+    elim (column == n) as (λ b. (column == n) ≡ b → fits c (unwrap_or (if b then Some value else cell_of cells n) old) ≡ true) [
       | true ↦ λ t.
           let same : column ≡ n = grind (arith, nat_tests) in
           sym (ap (λ o. fits_at o value) (ap (slice_get columns) same ∙ s)) ∙ g.0
@@ -91,14 +91,14 @@ cell_fits columns ((column, value) ∷ cells) n c old s f all =
     ] refl
 
 put_columns : (n : ℕ) (all cs : List Column) (row vs : List Value) (cells : List (ℕ × Value)) → drop n all ≡ cs → drop n row ≡ vs → is_row_of cs vs ≡ true →
-    list_all (λ cell. fits_at (slice_get all cell.0) cell.1) cells ≡ true → is_row_of cs (map (λ column. unwrap_or (cell_at cells column) (value_in row column)) (numbers_from n cs)) ≡ true
+    list_all (λ cell. fits_at (slice_get all cell.0) cell.1) cells ≡ true → is_row_of cs (map (λ column. unwrap_or (cell_of cells column) (value_in row column)) (numbers_from n cs)) ≡ true
 put_columns n all [] row vs cells d w r f = refl
 put_columns n all (c ∷ cs) row [] cells d w r f = absurd (cc)
 put_columns n all (c ∷ cs) row (v ∷ vs) cells d w r f =
     let s = slice_first n all c cs d in
     let x = values_first n row v vs w in
     let g = both (fits c v) (is_row_of cs vs) r in
-    join (fits c (unwrap_or (cell_at cells n) (value_in row n))) (is_row_of cs (map (λ column. unwrap_or (cell_at cells column) (value_in row column)) (numbers_from (n + 1) cs)))
+    join (fits c (unwrap_or (cell_of cells n) (value_in row n))) (is_row_of cs (map (λ column. unwrap_or (cell_of cells column) (value_in row column)) (numbers_from (n + 1) cs)))
     (cell_fits all cells n c (value_in row n) s.0 (ap (fits c) x.0 ∙ g.0) f)
     (put_columns (n + 1) all cs row vs cells (ap (λ k. drop k all) (add-one n) ∙ s.1) (ap (λ k. drop k row) (add-one n) ∙ x.1) g.1 f)
 

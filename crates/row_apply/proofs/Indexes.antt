@@ -15,7 +15,7 @@ use Rattle.redo_vec.specs.declared.table.TableRow.{TableRow}
 use Rattle.redo_spec.specs.ConflictKeys.{is_null}
 use Rattle.redo_spec.specs.Dictionary.{uniques_of}
 use Rattle.redo_spec.specs.Tables.{values_at}
-use Rattle.row_apply.specs.Kept.{Slots, Owners, Indexed, row_key, unique_key, slot_at, owner_at, indexed_at, IsLive, ArePrimary, AreSlots, IsIndexedBy, AreIndexed, index_at, index_by, index_slot, index_all, Puts, goes_at, Sets, ChangesOnly, OwnersOnly, OneLive, IsFreeAmong, IndexedOnly, IsOf}
+use Rattle.row_apply.specs.Kept.{Slots, Owners, Indexed, row_key, unique_key, slot_at, owner_at, indexed_at, IsLive, ArePrimary, AreSlots, IsIndexedBy, AreIndexed, index_at, index_by, index_slot, index_all, Puts, goes_at, Sets, ChangesOnly, OwnersOnly, OneLive, IsFreeAmong, IndexedOnly, IsPrimaryOf}
 use Rattle.row_apply.proofs.Orders.{key_is, key_self, key_turned}
 use Rattle.row_apply.proofs.Slots.{lookup-inserted, puts-only}
 
@@ -262,7 +262,7 @@ index_unmarked table slots new owners after indexed unmarked was slot owns marks
 
 -- a row that is put, and the table marked again
 pub index_put : (t : TableRow) (old new : Slots) (owners after : Owners) (indexed unmarked marked : Indexed) (gone : Option Key) (key : Key) (row : List Value) → AreIndexed old owners indexed →
-    indexed_at indexed t.id ≡ Some t.keys → key ≡ row_key t.id key.values → IsOf t.id gone → IsFreeAmong t old gone row → Puts old new gone key row → after ≡ index_by t.id row key 1 (uniques_of t) owners →
+    indexed_at indexed t.id ≡ Some t.keys → key ≡ row_key t.id key.values → IsPrimaryOf t.id gone → IsFreeAmong t old gone row → Puts old new gone key row → after ≡ index_by t.id row key 1 (uniques_of t) owners →
     IndexedOnly t.id indexed unmarked → IndexedOnly t.id unmarked marked → ((keys : List (List ℕ)) → indexed_at marked t.id ≡ Some keys → keys ≡ t.keys) → AreIndexed new after marked
 index_put t old new owners after indexed unmarked marked gone key row was at named of free puts is first second here =
     let k = row_key t.id key.values in

@@ -13,7 +13,7 @@ use Rattle.redo_vec.specs.declared.change.Op.TheVariants.{Insert, Update, Delete
 use Rattle.redo_vec.specs.declared.columns.Column.{Column}
 use Rattle.redo_vec.specs.declared.table.TableRow.{TableRow}
 use Rattle.redo_spec.specs.ChangeForm.{change_fault_in, has_column, columns_of, is_supplemental, wrong_supplement, wrong_cells, beyond, has_cell}
-use Rattle.redo_spec.specs.ConflictKeys.{cell_at}
+use Rattle.redo_spec.specs.ConflictKeys.{cell_of}
 use Rattle.redo_spec.specs.Dictionary.{first_of, primary_of, uniques_of, numbers_from, column_numbers, has_bad_keys, stands_twice, is_nullable}
 use Rattle.redo_spec.specs.Effect.{logged_key}
 use Rattle.row_apply.proofs.Accepted.{accepted, holds}
@@ -101,10 +101,10 @@ old_has t c Delete p other r u shape logged first inside =
 
 -- ---- their values are a row
 
-pub cell_there : (cells : List (ℕ × Value)) (p : ℕ) → has_column (columns_of cells) p ≡ true → is_some (cell_at cells p) ≡ true
+pub cell_there : (cells : List (ℕ × Value)) (p : ℕ) → has_column (columns_of cells) p ≡ true → is_some (cell_of cells p) ≡ true
 cell_there [] p e = absurd (cc)
 cell_there ((column, value) ∷ cells) p e =
-    elim (column == p) as (λ b. (b || has_column (columns_of cells) p) ≡ true → is_some (cond b (Some value) (cell_at cells p)) ≡ true) [
+    elim (column == p) as (λ b. (b || has_column (columns_of cells) p) ≡ true → is_some (cond b (Some value) (cell_of cells p)) ≡ true) [
       | true ↦ λ h. refl
       | false ↦ λ h. cell_there cells p h
     ] e
@@ -117,20 +117,20 @@ no_longer : {A : Type 0} (o : Option A) (rest : List A) → length (cons_option 
 no_longer None rest = omega arith
 no_longer (Some x) rest = omega arith
 
-no_more : (cells : List (ℕ × Value)) (columns : List ℕ) → length (filter_map (cell_at cells) columns) ≤ length columns
+no_more : (cells : List (ℕ × Value)) (columns : List ℕ) → length (filter_map (cell_of cells) columns) ≤ length columns
 no_more cells [] = omega arith
 no_more cells (c ∷ cs) =
     let rest = no_more cells cs in
-    let here = no_longer (cell_at cells c) (filter_map (cell_at cells) cs) in
+    let here = no_longer (cell_of cells c) (filter_map (cell_of cells) cs) in
     omega (arith, rest, here)
 
 first_there : (cells : List (ℕ × Value)) (columns : List ℕ) (n : ℕ) → is_key_columns columns ≡ true → list_all (λ c. nat_lt c n) columns ≡ true →
-    ((p : ℕ) → has_column columns p ≡ true → p < n → has_column (columns_of cells) p ≡ true) → 1 ≤ length (filter_map (cell_at cells) columns)
+    ((p : ℕ) → has_column columns p ≡ true → p < n → has_column (columns_of cells) p ≡ true) → 1 ≤ length (filter_map (cell_of cells) columns)
 first_there cells [] n form inside each = absurd (cc)
 first_there cells (p ∷ ps) n form inside each =
     let low = both (nat_lt p n) (list_all (λ c. nat_lt c n) ps) inside in
     let own : (p == p) ≡ true = grind (arith, nat_tests) in
-    one_more (cell_at cells p) (filter_map (cell_at cells) ps) (cell_there cells p (each p (left (p == p) _ own) (grind (arith, nat_tests, low.0))))
+    one_more (cell_of cells p) (filter_map (cell_of cells) ps) (cell_there cells p (each p (left (p == p) _ own) (grind (arith, nat_tests, low.0))))
 
 pub logged_is_row : (t : TableRow) (c : Change) → has_bad_keys t ≡ false → change_fault_in t c ≡ None → c.op ≢ Insert → columns_rise 0 c.old ≡ true → is_key_columns (primary_of t) ≡ true → length (primary_of t) ≤ 32 →
     IsRow (logged_key t c.old)

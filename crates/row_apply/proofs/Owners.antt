@@ -12,10 +12,10 @@ use Rattle.rl_value.specs.Order.{row_cmp}
 use Rattle.redo_spec.specs.ConflictKeys.{is_null}
 use Rattle.redo_spec.specs.Tables.{Rows, values_at, owner_in}
 use Rattle.row_apply.specs.Overlaid.{rows_after}
-use Rattle.row_apply.specs.Written.{writes_of}
+use Rattle.row_apply.specs.Written.{writes_in}
 use Rattle.row_apply.specs.Kept.{Slots, row_key, slot_at, IsLive, AreSlots}
 use Rattle.row_apply.specs.Soundness.{HaveOneOwner}
-use Rattle.row_apply.specs.Adding.{minus, goes, unless, if_beneath, OwnsWritten, IsUnowned}
+use Rattle.row_apply.specs.Adding.{rows_without, goes, owner_unless, if_beneath, OwnsWritten, IsUnowned}
 use Rattle.row_apply.proofs.Orders.{row_is, row_self, row_turned}
 use Rattle.row_apply.proofs.Slots.{find_after, over, sorted_minus, find_minus}
 
@@ -109,35 +109,35 @@ kept_if true F x e = absurd (cc)
 kept_if false F x e = (refl, e)
 
 -- a row that is left was there
-pub left_was : (gone : Option (List Value)) (q row : List Value) (rows : Rows) → entries.find row_cmp q (minus gone rows) ≡ Some row → (goes gone q ≡ false) × (entries.find row_cmp q rows ≡ Some row)
+pub left_was : (gone : Option (List Value)) (q row : List Value) (rows : Rows) → entries.find row_cmp q (rows_without gone rows) ≡ Some row → (goes gone q ≡ false) × (entries.find row_cmp q rows ≡ Some row)
 left_was gone q row rows e = kept_if (goes gone q) (entries.find row_cmp q rows) row (sym (find_minus gone q rows) ∙ e)
 
-pub one_owner-minus : (gone : Option (List Value)) (columns : List ℕ) (rows : Rows) → HaveOneOwner columns rows → HaveOneOwner columns (minus gone rows)
+pub one_owner-minus : (gone : Option (List Value)) (columns : List ℕ) (rows : Rows) → HaveOneOwner columns rows → HaveOneOwner columns (rows_without gone rows)
 one_owner-minus gone columns rows one key other row like e f =
     one key other row like (left_was gone key row rows e).1 (left_was gone other like rows f).1
 
-unless_goes : (gone : Option (List Value)) (owner : List Value) → unless gone owner ≡ cond (goes gone owner) None (Some owner)
+unless_goes : (gone : Option (List Value)) (owner : List Value) → owner_unless gone owner ≡ cond (goes gone owner) None (Some owner)
 unless_goes None owner = refl
 unless_goes (Some k) owner = ap (λ b. cond b None (Some owner)) (row_turned k owner)
 
 -- the owner, or none where it goes
 pub owner_minus : (gone : Option (List Value)) (rows : Rows) (columns : List ℕ) (values key row : List Value) → T (entries.is_sorted row_cmp rows) → HaveOneOwner columns rows →
-    list_any is_null values ≡ false → entries.find row_cmp key rows ≡ Some row → values_at row columns ≡ values → owner_in (minus gone rows) columns values ≡ unless gone key
+    list_any is_null values ≡ false → entries.find row_cmp key rows ≡ Some row → values_at row columns ≡ values → owner_in (rows_without gone rows) columns values ≡ owner_unless gone key
 owner_minus gone rows columns values key row s one full f v =
-    elim (goes gone key) as (λ b. goes gone key ≡ b → owner_in (minus gone rows) columns values ≡ cond b None (Some key)) [
-      | true ↦ λ g. owner_none (minus gone rows) columns values (sorted_minus gone rows s) (λ k x e w.
+    elim (goes gone key) as (λ b. goes gone key ≡ b → owner_in (rows_without gone rows) columns values ≡ cond b None (Some key)) [
+      | true ↦ λ g. owner_none (rows_without gone rows) columns values (sorted_minus gone rows s) (λ k x e w.
           let p = left_was gone k x rows e in
           let same : key ≡ k = one key k row x f p.1 (ap (list_any is_null) v ∙ full) (v ∙ sym w) in
           let still : goes gone key ≡ false = ap (goes gone) same ∙ p.0 in
           cc)
-      | false ↦ λ g. owner_is (minus gone rows) columns values key row (sorted_minus gone rows s) (one_owner-minus gone columns rows one) full
+      | false ↦ λ g. owner_is (rows_without gone rows) columns values key row (sorted_minus gone rows s) (one_owner-minus gone columns rows one) full
           (find_minus gone key rows ∙ ap (λ b. cond b None (entries.find row_cmp key rows)) g ∙ f) v
     ] refl
     ∙ sym (unless_goes gone key)
 
 -- ---- where rows were written over others
 
-pub found_live : (es : Slots) (id : ℕ) (q row : List Value) (beneath : Rows) → AreSlots es → IsLive es id q row → entries.find row_cmp q (rows_after id (writes_of es) beneath) ≡ Some row
+pub found_live : (es : Slots) (id : ℕ) (q row : List Value) (beneath : Rows) → AreSlots es → IsLive es id q row → entries.find row_cmp q (rows_after id (writes_in es) beneath) ≡ Some row
 found_live es id q row beneath a live = find_after es id q beneath a.primary a.ordered ∙ ap (λ s. over s (entries.find row_cmp q beneath)) live
 
 -- a row that is found is written, or stands beneath where nothing was written
@@ -147,18 +147,18 @@ seen_from (Some s) F x never e = absurd (never (ap Some e))
 
 -- a written row that has the values owns them
 pub owner_written : (gone : Option (List Value)) (es : Slots) (id : ℕ) (beneath : Rows) (columns : List ℕ) (values owner : List Value) → AreSlots es →
-    T (entries.is_sorted row_cmp (rows_after id (writes_of es) beneath)) → HaveOneOwner columns (rows_after id (writes_of es) beneath) → list_any is_null values ≡ false →
-    OwnsWritten es id columns values owner → owner_in (minus gone (rows_after id (writes_of es) beneath)) columns values ≡ unless gone owner
+    T (entries.is_sorted row_cmp (rows_after id (writes_in es) beneath)) → HaveOneOwner columns (rows_after id (writes_in es) beneath) → list_any is_null values ≡ false →
+    OwnsWritten es id columns values owner → owner_in (rows_without gone (rows_after id (writes_in es) beneath)) columns values ≡ owner_unless gone owner
 owner_written gone es id beneath columns values owner a s one full owns =
-    owner_minus gone (rows_after id (writes_of es) beneath) columns values owner owns.0 s one full (found_live es id owner owns.0 beneath a owns.1.0) owns.1.1
+    owner_minus gone (rows_after id (writes_in es) beneath) columns values owner owns.0 s one full (found_live es id owner owns.0 beneath a owns.1.0) owns.1.1
 
 -- else nobody owns them where nobody does beneath
 pub owner_nowhere : (gone : Option (List Value)) (es : Slots) (id : ℕ) (beneath : Rows) (columns : List ℕ) (values : List Value) → AreSlots es →
-    T (entries.is_sorted row_cmp (rows_after id (writes_of es) beneath)) → IsUnowned es id columns values → owner_in beneath columns values ≡ None →
-    owner_in (minus gone (rows_after id (writes_of es) beneath)) columns values ≡ None
+    T (entries.is_sorted row_cmp (rows_after id (writes_in es) beneath)) → IsUnowned es id columns values → owner_in beneath columns values ≡ None →
+    owner_in (rows_without gone (rows_after id (writes_in es) beneath)) columns values ≡ None
 owner_nowhere gone es id beneath columns values a s never none =
-    owner_none (minus gone (rows_after id (writes_of es) beneath)) columns values (sorted_minus gone (rows_after id (writes_of es) beneath) s) (λ k x e w.
-    let p = left_was gone k x (rows_after id (writes_of es) beneath) e in
+    owner_none (rows_without gone (rows_after id (writes_in es) beneath)) columns values (sorted_minus gone (rows_after id (writes_in es) beneath) s) (λ k x e w.
+    let p = left_was gone k x (rows_after id (writes_in es) beneath) e in
     let q = seen_from (slot_at es (row_key id k)) (entries.find row_cmp k beneath) x (λ live. never k x live w) (sym (find_after es id k beneath a.primary a.ordered) ∙ p.1) in
     none_owns beneath columns values k x none q.1 w)
 
@@ -173,14 +173,14 @@ is_none (Some s) e = absurd (cc)
 -- the owner beneath owns them where it was not written over
 pub owner_beneath : (gone : Option (List Value)) (es : Slots) (id : ℕ) (beneath : Rows) (columns : List ℕ) (values owner : List Value) → AreSlots es →
     T (entries.is_sorted row_cmp beneath) → HaveOneOwner columns beneath →
-    T (entries.is_sorted row_cmp (rows_after id (writes_of es) beneath)) → HaveOneOwner columns (rows_after id (writes_of es) beneath) → list_any is_null values ≡ false →
+    T (entries.is_sorted row_cmp (rows_after id (writes_in es) beneath)) → HaveOneOwner columns (rows_after id (writes_in es) beneath) → list_any is_null values ≡ false →
     IsUnowned es id columns values → owner_in beneath columns values ≡ Some owner →
-    owner_in (minus gone (rows_after id (writes_of es) beneath)) columns values ≡ if_beneath es id gone owner
+    owner_in (rows_without gone (rows_after id (writes_in es) beneath)) columns values ≡ if_beneath es id gone owner
 owner_beneath gone es id beneath columns values owner a sb oneb s one full never is =
-    let rows = rows_after id (writes_of es) beneath in
+    let rows = rows_after id (writes_in es) beneath in
     let p = owner_found beneath columns values owner sb is in
-    elim (is_some (slot_at es (row_key id owner))) as (λ b. is_some (slot_at es (row_key id owner)) ≡ b → owner_in (minus gone (rows_after id (writes_of es) beneath)) columns values ≡ (if b then None else unless gone owner)) [
-      | true ↦ λ t. owner_none (minus gone rows) columns values (sorted_minus gone rows s) (λ k x e w.
+    elim (is_some (slot_at es (row_key id owner))) as (λ b. is_some (slot_at es (row_key id owner)) ≡ b → owner_in (rows_without gone (rows_after id (writes_in es) beneath)) columns values ≡ (if b then None else owner_unless gone owner)) [
+      | true ↦ λ t. owner_none (rows_without gone rows) columns values (sorted_minus gone rows s) (λ k x e w.
           let l = left_was gone k x rows e in
           let q = seen_from (slot_at es (row_key id k)) (entries.find row_cmp k beneath) x (λ live. never k x live w) (sym (find_after es id k beneath a.primary a.ordered) ∙ l.1) in
           let same : k ≡ owner = oneb k owner x p.0 q.1 p.1.0 (ap (list_any is_null) w ∙ full) (w ∙ sym p.1.1) in

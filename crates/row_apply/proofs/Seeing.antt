@@ -17,7 +17,7 @@ use Rattle.row_apply.specs.Found.{owner_of}
 use Rattle.row_apply.specs.Kept.{Slots, Owners, row_key, unique_key, slot_at, owner_at, indexed_at, IsLive, AreSlots, AreIndexed, OneLive, rows_seen}
 use Rattle.row_apply.specs.KeptIn.{slots_of, owners_of, indexed_of}
 use Rattle.row_apply.specs.Soundness.{AreSoundRows, HaveOneOwner}
-use Rattle.row_apply.specs.Adding.{minus, unless, if_beneath, owns, slot_has, if_owns, written_owner, OwnsWritten, IsUnowned, IsReady}
+use Rattle.row_apply.specs.Adding.{rows_without, owner_unless, if_beneath, owns, slot_has, if_owns, written_owner, OwnsWritten, IsUnowned, IsReady}
 use Rattle.row_apply.proofs.Effects.{owner_of-in, sound_base}
 use Rattle.row_apply.proofs.Fitting.{three}
 use Rattle.row_apply.proofs.Owners.{owner_written, owner_nowhere, owner_beneath, found_live}
@@ -120,7 +120,7 @@ module _ (tables : Tables) (w : Written) (t : TableRow) (key : Key) (columns : L
       owner_of-in tables t key (ap (table_of (definitions_of tables)) same ∙ ready.there)
       ∙ (λ i. owner_in (rows_of tables (same i)) (column_list t.keys key.index columns s i) key.values)
 
-  pub other_owner_written : (owner : List Value) → written_owner (slots_of w) (owners_of w) key columns ≡ Some owner → unless gone owner ≡ owner_in (minus gone (rows_seen tables (slots_of w) t)) columns key.values
+  pub other_owner_written : (owner : List Value) → written_owner (slots_of w) (owners_of w) key columns ≡ Some owner → owner_unless gone owner ≡ owner_in (rows_without gone (rows_seen tables (slots_of w) t)) columns key.values
   other_owner_written owner e =
       let owns_it : OwnsWritten (slots_of w) t.id columns key.values owner =
       subst (λ (id : ℕ). OwnsWritten (slots_of w) id columns key.values owner) same (written_owns (slots_of w) key columns (owner_at (owners_of w) key) owner e) in
@@ -129,12 +129,12 @@ module _ (tables : Tables) (w : Written) (t : TableRow) (key : Key) (columns : L
   nobody : written_owner (slots_of w) (owners_of w) key columns ≡ None → IsUnowned (slots_of w) t.id columns key.values
   nobody e = subst (λ (id : ℕ). IsUnowned (slots_of w) id columns key.values) same (untold (slots_of w) (owners_of w) (indexed_of w) t key columns ready.kept.index ready.indexed same some s full e)
 
-  pub other_owner_nowhere : written_owner (slots_of w) (owners_of w) key columns ≡ None → owner_of tables key ≡ None → None ≡ owner_in (minus gone (rows_seen tables (slots_of w) t)) columns key.values
+  pub other_owner_nowhere : written_owner (slots_of w) (owners_of w) key columns ≡ None → owner_of tables key ≡ None → None ≡ owner_in (rows_without gone (rows_seen tables (slots_of w) t)) columns key.values
   other_owner_nowhere e none =
       sym (owner_nowhere gone (slots_of w) t.id (rows_of tables t.id) columns key.values ready.kept.slots (to_T _ ready.sound.rising) (nobody e) (sym owner_base ∙ none))
 
   pub other_owner_beneath : (owner : List Value) → written_owner (slots_of w) (owners_of w) key columns ≡ None → owner_of tables key ≡ Some owner →
-      if_beneath (slots_of w) t.id gone owner ≡ owner_in (minus gone (rows_seen tables (slots_of w) t)) columns key.values
+      if_beneath (slots_of w) t.id gone owner ≡ owner_in (rows_without gone (rows_seen tables (slots_of w) t)) columns key.values
   other_owner_beneath owner e is =
       sym (owner_beneath gone (slots_of w) t.id (rows_of tables t.id) columns key.values owner ready.kept.slots (to_T _ base_rows.rising) one_beneath (to_T _ ready.sound.rising) one_seen full (nobody e)
       (sym owner_base ∙ is))

@@ -10,7 +10,7 @@ use Rattle.redo_vec.specs.declared.columns.Column.{Column}
 use Rattle.redo_vec.specs.declared.table.TableRow.{TableRow}
 use Rattle.redo_vec.specs.Columns.{are_columns, is_kind}
 use Rattle.redo_vec.specs.Forms.{is_key_columns}
-use Rattle.redo_spec.specs.ConflictKeys.{cell_at}
+use Rattle.redo_spec.specs.ConflictKeys.{cell_of}
 use Rattle.redo_spec.specs.Dictionary.{numbers_from, column_numbers}
 use Rattle.redo_spec.specs.Effect.{cell_values, with_cells}
 use Rattle.redo_spec.specs.Tables.{values_at, value_in}
@@ -45,7 +45,7 @@ with_cells_is_row t row cells e =
     let p = three (nat_le 1 (length t.columns)) (nat_le (length t.columns) 32) (list_all (λ (c : Column). is_kind c.kind) t.columns) e in
     let some : 1 ≤ length t.columns = grind (arith, nat_tests, p.0) in
     let most : length t.columns ≤ 32 = grind (arith, nat_tests, p.1) in
-    let count : length (with_cells t row cells) ≡ length (column_numbers t) = length-map (column_numbers t) (λ (column : ℕ). unwrap_or (cell_at cells column) (value_in row column)) in
+    let count : length (with_cells t row cells) ≡ length (column_numbers t) = length-map (column_numbers t) (λ (column : ℕ). unwrap_or (cell_of cells column) (value_in row column)) in
     let numbers = count_from 0 t.columns in
     record { some = omega (arith, count, numbers, some); most = omega (arith, count, numbers, most) }
 

@@ -19,11 +19,11 @@ use Rattle.rl_value.specs.declared.value.Value.{Value}
 use Rattle.rl_value.specs.declared.key.Key.{Key}
 use Rattle.rl_value.specs.Order.{row_cmp, key_cmp, row_total, key_total}
 use Rattle.redo_spec.specs.Tables.{Rows}
-use Rattle.row_apply.specs.Adding.{minus, values_of, goes}
+use Rattle.row_apply.specs.Adding.{rows_without, values_of, goes}
 use Rattle.redo_spec.specs.Work.{write_row}
 use Rattle.row_apply.specs.Overlaid.{rows_after}
-use Rattle.row_apply.specs.Written.{writes_of}
-use Rattle.row_apply.specs.Kept.{Slots, row_key, slot_at, ArePrimary, AreSlots, Sets, Puts, goes_at, ChangesOnly, IsOf}
+use Rattle.row_apply.specs.Written.{writes_in}
+use Rattle.row_apply.specs.Kept.{Slots, row_key, slot_at, ArePrimary, AreSlots, Sets, Puts, goes_at, ChangesOnly, IsPrimaryOf}
 use Rattle.row_apply.proofs.Orders.{row_same, row_turned, key_is, key_turned, row_keys_tie}
 
 pub to_T : (b : Bool) → b ≡ true → T b
@@ -97,7 +97,7 @@ rows_same rows others s t same = entries.same_entries row_cmp row_total row_same
 
 -- ---- the rows after the writes of these slots
 
-pub sorted_after : (es : Slots) (id : ℕ) (rows : Rows) → T (entries.is_sorted row_cmp rows) → T (entries.is_sorted row_cmp (rows_after id (writes_of es) rows))
+pub sorted_after : (es : Slots) (id : ℕ) (rows : Rows) → T (entries.is_sorted row_cmp rows) → T (entries.is_sorted row_cmp (rows_after id (writes_in es) rows))
 sorted_after [] id rows h = h
 sorted_after (e ∷ es) id rows h =
     sorted_after es id (if e.0.table == id then write_row rows e.0.values e.1 else rows)
@@ -122,7 +122,7 @@ choose true S slot F none = ap (λ s. over s slot) (none refl)
 choose false S slot F none = refl
 
 pub find_after : (es : Slots) (id : ℕ) (q : List Value) (rows : Rows) → ArePrimary es → IsStrictlySortedBy key_cmp (keys_of es) →
-    entries.find row_cmp q (rows_after id (writes_of es) rows) ≡ over (slot_at es (row_key id q)) (entries.find row_cmp q rows)
+    entries.find row_cmp q (rows_after id (writes_in es) rows) ≡ over (slot_at es (row_key id q)) (entries.find row_cmp q rows)
 find_after [] id q rows p s = refl
 find_after (e ∷ es) id q rows p s =
     let b = is_eq (key_cmp (row_key id q) e.0) in
@@ -146,38 +146,38 @@ set_else true v S slot F e = absurd (cc)
 set_else false v S slot F e = refl
 
 find_set : (old new : Slots) (key : Key) (slot : Option (List Value)) → AreSlots new → key.index ≡ 0 → Sets old new key slot → (id : ℕ) (q : List Value) (rows : Rows) →
-    entries.find row_cmp q (rows_after id (writes_of new) rows) ≡ over (cond ((key.table == id) && eq_by_cmp row_cmp q key.values) (Some slot) (slot_at old (row_key id q))) (entries.find row_cmp q rows)
+    entries.find row_cmp q (rows_after id (writes_in new) rows) ≡ over (cond ((key.table == id) && eq_by_cmp row_cmp q key.values) (Some slot) (slot_at old (row_key id q))) (entries.find row_cmp q rows)
 find_set old new key slot n zero set id q rows =
     find_after new id q rows n.primary n.ordered
     ∙ ap (λ s. over s (entries.find row_cmp q rows)) (set (row_key id q) ∙ ap (λ b. cond b (Some slot) (slot_at old (row_key id q))) (tie_turned key id q zero))
 
 -- it stands in the rows of its table
 pub after_set : (old new : Slots) (key : Key) (slot : Option (List Value)) → AreSlots old → AreSlots new → key.index ≡ 0 → Sets old new key slot →
-    (rows : Rows) → T (entries.is_sorted row_cmp rows) → rows_after key.table (writes_of new) rows ≡ write_row (rows_after key.table (writes_of old) rows) key.values slot
+    (rows : Rows) → T (entries.is_sorted row_cmp rows) → rows_after key.table (writes_in new) rows ≡ write_row (rows_after key.table (writes_in old) rows) key.values slot
 after_set old new key slot o n zero set rows h =
     let self : (key.table == key.table) ≡ true = grind (arith) in
-    rows_same (rows_after key.table (writes_of new) rows) (write_row (rows_after key.table (writes_of old) rows) key.values slot)
-    (sorted_after new key.table rows h) (sorted_write key.values slot (rows_after key.table (writes_of old) rows) (sorted_after old key.table rows h))
+    rows_same (rows_after key.table (writes_in new) rows) (write_row (rows_after key.table (writes_in old) rows) key.values slot)
+    (sorted_after new key.table rows h) (sorted_write key.values slot (rows_after key.table (writes_in old) rows) (sorted_after old key.table rows h))
     (λ q. find_set old new key slot n zero set key.table q rows
     ∙ set_there (key.table == key.table) (eq_by_cmp row_cmp q key.values) (slot_at old (row_key key.table q)) slot (entries.find row_cmp q rows) self
-    ∙ sym (find_write q key.values slot (rows_after key.table (writes_of old) rows)
+    ∙ sym (find_write q key.values slot (rows_after key.table (writes_in old) rows)
     ∙ ap (λ f. cond (eq_by_cmp row_cmp q key.values) slot f) (find_after old key.table q rows o.primary o.ordered)))
 
 -- rows of other tables are as they were
 pub after_others : (old new : Slots) (table : ℕ) → AreSlots old → AreSlots new → ChangesOnly table old new →
-    (id : ℕ) → (id == table) ≡ false → (rows : Rows) → T (entries.is_sorted row_cmp rows) → rows_after id (writes_of old) rows ≡ rows_after id (writes_of new) rows
+    (id : ℕ) → (id == table) ≡ false → (rows : Rows) → T (entries.is_sorted row_cmp rows) → rows_after id (writes_in old) rows ≡ rows_after id (writes_in new) rows
 after_others old new table o n only id other rows h =
-    rows_same (rows_after id (writes_of old) rows) (rows_after id (writes_of new) rows) (sorted_after old id rows h) (sorted_after new id rows h)
+    rows_same (rows_after id (writes_in old) rows) (rows_after id (writes_in new) rows) (sorted_after old id rows h) (sorted_after new id rows h)
     (λ q. find_after old id q rows o.primary o.ordered ∙ ap (λ s. over s (entries.find row_cmp q rows)) (sym (only (row_key id q) other))
     ∙ sym (find_after new id q rows n.primary n.ordered))
 
 -- ---- rows without the one that goes
 
-pub sorted_minus : (gone : Option (List Value)) (rows : Rows) → T (entries.is_sorted row_cmp rows) → T (entries.is_sorted row_cmp (minus gone rows))
+pub sorted_minus : (gone : Option (List Value)) (rows : Rows) → T (entries.is_sorted row_cmp rows) → T (entries.is_sorted row_cmp (rows_without gone rows))
 sorted_minus None rows h = h
 sorted_minus (Some k) rows h = entries.is_sorted-where_key row_cmp (λ x. not (eq_by_cmp row_cmp k x)) rows h
 
-pub find_minus : (gone : Option (List Value)) (q : List Value) (rows : Rows) → entries.find row_cmp q (minus gone rows) ≡ cond (goes gone q) None (entries.find row_cmp q rows)
+pub find_minus : (gone : Option (List Value)) (q : List Value) (rows : Rows) → entries.find row_cmp q (rows_without gone rows) ≡ cond (goes gone q) None (entries.find row_cmp q rows)
 find_minus None q rows = refl
 find_minus (Some k) q rows = find_write q k None rows
 
@@ -186,15 +186,15 @@ find_minus (Some k) q rows = find_write q k None rows
 pub same_table : (table id : ℕ) → table ≡ id → (table == id) ≡ true
 same_table table id e = grind (arith, nat_tests)
 
-goes_row : (gone : Option Key) (table : ℕ) (q : List Value) (F : Option (List Value)) → IsOf table gone →
+goes_row : (gone : Option Key) (table : ℕ) (q : List Value) (F : Option (List Value)) → IsPrimaryOf table gone →
     (X : Option (Option (List Value))) → over (cond (goes_at gone (row_key table q)) (Some None) X) F ≡ cond (goes (values_of gone) q) None (over X F)
 goes_row None table q F of X = refl
 goes_row (Some k) table q F of X =
     ap (λ b. over (cond b (Some None) X) F) (tie_turned k table q of.1 ∙ ap (λ b. b && eq_by_cmp row_cmp q k.values) (same_table k.table table of.0))
     ∙ set_there true (eq_by_cmp row_cmp q k.values) X None F refl
 
-find_puts : (old new : Slots) (gone : Option Key) (key : Key) (row : List Value) → AreSlots new → key.index ≡ 0 → IsOf key.table gone → Puts old new gone key row → (q : List Value) (rows : Rows) →
-    entries.find row_cmp q (rows_after key.table (writes_of new) rows)
+find_puts : (old new : Slots) (gone : Option Key) (key : Key) (row : List Value) → AreSlots new → key.index ≡ 0 → IsPrimaryOf key.table gone → Puts old new gone key row → (q : List Value) (rows : Rows) →
+    entries.find row_cmp q (rows_after key.table (writes_in new) rows)
     ≡ cond (eq_by_cmp row_cmp q key.values) (Some row) (cond (goes (values_of gone) q) None (over (slot_at old (row_key key.table q)) (entries.find row_cmp q rows)))
 find_puts old new gone key row n zero of puts q rows =
     let F = entries.find row_cmp q rows in
@@ -204,14 +204,14 @@ find_puts old new gone key row n zero of puts q rows =
     ∙ set_there (key.table == key.table) (eq_by_cmp row_cmp q key.values) X (Some row) F (same_table key.table key.table refl)
     ∙ ap (λ f. cond (eq_by_cmp row_cmp q key.values) (Some row) f) (goes_row gone key.table q F of (slot_at old (row_key key.table q)))
 
-pub after_puts : (old new : Slots) (gone : Option Key) (key : Key) (row : List Value) → AreSlots old → AreSlots new → key.index ≡ 0 → IsOf key.table gone → Puts old new gone key row →
-    (rows : Rows) → T (entries.is_sorted row_cmp rows) → rows_after key.table (writes_of new) rows ≡ entries.put row_cmp key.values row (minus (values_of gone) (rows_after key.table (writes_of old) rows))
+pub after_puts : (old new : Slots) (gone : Option Key) (key : Key) (row : List Value) → AreSlots old → AreSlots new → key.index ≡ 0 → IsPrimaryOf key.table gone → Puts old new gone key row →
+    (rows : Rows) → T (entries.is_sorted row_cmp rows) → rows_after key.table (writes_in new) rows ≡ entries.put row_cmp key.values row (rows_without (values_of gone) (rows_after key.table (writes_in old) rows))
 after_puts old new gone key row o n zero of puts rows h =
-    let was = rows_after key.table (writes_of old) rows in
-    rows_same (rows_after key.table (writes_of new) rows) (entries.put row_cmp key.values row (minus (values_of gone) was))
-    (sorted_after new key.table rows h) (entries.is_sorted-put row_cmp row_total key.values row (minus (values_of gone) was) (sorted_minus (values_of gone) was (sorted_after old key.table rows h)))
+    let was = rows_after key.table (writes_in old) rows in
+    rows_same (rows_after key.table (writes_in new) rows) (entries.put row_cmp key.values row (rows_without (values_of gone) was))
+    (sorted_after new key.table rows h) (entries.is_sorted-put row_cmp row_total key.values row (rows_without (values_of gone) was) (sorted_minus (values_of gone) was (sorted_after old key.table rows h)))
     (λ q. find_puts old new gone key row n zero of puts q rows
-    ∙ sym (entries.find-put row_cmp row_total q key.values row (minus (values_of gone) was)
+    ∙ sym (entries.find-put row_cmp row_total q key.values row (rows_without (values_of gone) was)
     ∙ ap (λ f. cond (eq_by_cmp row_cmp q key.values) (Some row) f) (find_minus (values_of gone) q was
     ∙ ap (λ f. cond (goes (values_of gone) q) None f) (find_after old key.table q rows o.primary o.ordered))))
 
@@ -226,11 +226,11 @@ apart k q table same other =
 pub sets-only : (old new : Slots) (key : Key) (slot : Option (List Value)) → Sets old new key slot → ChangesOnly key.table old new
 sets-only old new key slot set q other = set q ∙ ap (λ b. cond b (Some slot) (slot_at old q)) (apart key q key.table refl other)
 
-not_going : (gone : Option Key) (q : Key) (table : ℕ) → IsOf table gone → (q.table == table) ≡ false → goes_at gone q ≡ false
+not_going : (gone : Option Key) (q : Key) (table : ℕ) → IsPrimaryOf table gone → (q.table == table) ≡ false → goes_at gone q ≡ false
 not_going None q table of other = refl
 not_going (Some k) q table of other = apart k q table of.0 other
 
-pub puts-only : (old new : Slots) (gone : Option Key) (key : Key) (row : List Value) → IsOf key.table gone → Puts old new gone key row → ChangesOnly key.table old new
+pub puts-only : (old new : Slots) (gone : Option Key) (key : Key) (row : List Value) → IsPrimaryOf key.table gone → Puts old new gone key row → ChangesOnly key.table old new
 puts-only old new gone key row of puts q other =
     puts q ∙ ap (λ b. cond b (Some (Some row)) (cond (goes_at gone q) (Some None) (slot_at old q))) (apart key q key.table refl other)
     ∙ ap (λ b. cond b (Some None) (slot_at old q)) (not_going gone q key.table of other)

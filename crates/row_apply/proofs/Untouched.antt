@@ -17,14 +17,14 @@ use Rattle.redo_vec.specs.declared.change.Op.TheVariants.{Insert, Update}
 use Rattle.redo_vec.specs.declared.columns.Column.{Column}
 use Rattle.redo_vec.specs.declared.table.TableRow.{TableRow}
 use Rattle.redo_spec.specs.ChangeForm.{change_fault_in, has_column}
-use Rattle.redo_spec.specs.ConflictKeys.{cell_at, after_op, key_at, key_of, keys_given, conflict_keys, conflict_keys_of, conflict_keys_in}
+use Rattle.redo_spec.specs.ConflictKeys.{cell_of, after_op, key_by_columns, key_if_whole, keys_given, conflict_keys, conflict_keys_of, conflict_keys_in}
 use Rattle.redo_spec.specs.Dictionary.{table_of, first_of, primary_of, numbers_from, has_bad_keys}
 use Rattle.redo_spec.specs.Effect.{cell_values, with_cells, logged_key, difference}
 use Rattle.redo_spec.specs.Tables.{value_in, values_at, primary_key}
 use Rattle.row_apply.specs.declared.writes.Write.{Write}
 use Rattle.row_apply.specs.Kept.{Slots, row_key, slot_at, ArePrimary, Sets, Puts, SlotsOnly, keys_put}
 use Rattle.row_apply.specs.Overlaid.{WritesOnly, written_at, written_key}
-use Rattle.row_apply.specs.Written.{writes_of, write_of}
+use Rattle.row_apply.specs.Written.{writes_in, write_of}
 use Rattle.row_apply.proofs.Accepted.{accepted, insert_count}
 use Rattle.row_apply.proofs.Fitting.{both, either, three, room}
 use Rattle.row_apply.proofs.Logged.{left, right, primary_within, old_has, cell_there}
@@ -37,15 +37,15 @@ chosen : {A B : Type 0} (f : A → B) (b : Bool) (x : A) (rest : Option A) → o
 chosen f true x rest = refl
 chosen f false x rest = refl
 
-pub written_slot : (es : Slots) (q : Key) → ArePrimary es → written_at (writes_of es) q ≡ slot_at es q
+pub written_slot : (es : Slots) (q : Key) → ArePrimary es → written_at (writes_in es) q ≡ slot_at es q
 written_slot [] q p = refl
 written_slot (e ∷ es) q p =
-    chosen (λ (w : Write). w.row) (is_eq (key_cmp (written_key (write_of e)) q)) (write_of e) (find (λ w. is_eq (key_cmp (written_key w) q)) (writes_of es))
-    ∙ ap (λ b. cond b (Some e.1) (written_at (writes_of es) q)) (ap (λ (k : Key). is_eq (key_cmp k q)) (same_key e p.0) ∙ key_turned e.0 q)
+    chosen (λ (w : Write). w.row) (is_eq (key_cmp (written_key (write_of e)) q)) (write_of e) (find (λ w. is_eq (key_cmp (written_key w) q)) (writes_in es))
+    ∙ ap (λ b. cond b (Some e.1) (written_at (writes_in es) q)) (ap (λ (k : Key). is_eq (key_cmp k q)) (same_key e p.0) ∙ key_turned e.0 q)
     ∙ ap (λ o. cond (is_eq (key_cmp q e.0)) (Some e.1) o) (written_slot es q p.1)
 
 pub writes_only : (tables : List TableRow) (t : TableRow) (c : Change) (old new : Slots) → Some t ≡ table_of tables c.table → ArePrimary old → ArePrimary new → SlotsOnly (conflict_keys_in t c) old new →
-    WritesOnly (conflict_keys tables c) (writes_of old) (writes_of new)
+    WritesOnly (conflict_keys tables c) (writes_in old) (writes_in new)
 writes_only tables t c old new found o n only q out =
     written_slot new q n ∙ only q (ap (λ (u : Option TableRow). list_any (λ k. is_eq (key_cmp k q)) (conflict_keys_of u c)) found ∙ out) ∙ sym (written_slot old q o)
 
@@ -68,23 +68,23 @@ parted test (x ∷ xs) ys e =
     (ap (λ b. b || list_any test xs) p.0 ∙ r.0, r.1)
 
 first_given : (id : ℕ) (keys : List (List ℕ)) (given : ℕ → Option Value) (values : List Value) (q : Key) → is_key_columns (first_of keys) ≡ true → all_of (map given (first_of keys)) ≡ Some values →
-    list_any (λ k. is_eq (key_cmp k q)) (flat_map (key_at id given) (enumerate_from 0 keys)) ≡ false → is_eq (key_cmp (row_key id values) q) ≡ false
+    list_any (λ k. is_eq (key_cmp k q)) (flat_map (key_by_columns id given) (enumerate_from 0 keys)) ≡ false → is_eq (key_cmp (row_key id values) q) ≡ false
 first_given id [] given values q form all out = absurd (cc)
 first_given id (first ∷ more) given values q form all out =
-    let rest = flat_map (key_at id given) (enumerate_from 1 more) in
+    let rest = flat_map (key_by_columns id given) (enumerate_from 1 more) in
     (either (is_eq (key_cmp (row_key id values) q)) (list_any (λ k. is_eq (key_cmp k q)) rest)
-    (ap (λ (o : Option (List Value)). list_any (λ k. is_eq (key_cmp k q)) (key_of id 0 o ++ rest)) (sym all) ∙ out)).0
+    (ap (λ (o : Option (List Value)). list_any (λ k. is_eq (key_cmp k q)) (key_if_whole id 0 o ++ rest)) (sym all) ∙ out)).0
 
 module _ (t : TableRow) (c : Change) (q : Key) (form : is_key_columns (primary_of t) ≡ true) (out : list_any (λ k. is_eq (key_cmp k q)) (conflict_keys_in t c) ≡ false) where
-  both_out : (list_any (λ k. is_eq (key_cmp k q)) (keys_given t (cell_at c.old)) ≡ false) × (list_any (λ k. is_eq (key_cmp k q)) (keys_given t (cell_at (after_op c.op c.old c.new))) ≡ false)
-  both_out = parted (λ k. is_eq (key_cmp k q)) (keys_given t (cell_at c.old)) (keys_given t (cell_at (after_op c.op c.old c.new))) out
+  both_out : (list_any (λ k. is_eq (key_cmp k q)) (keys_given t (cell_of c.old)) ≡ false) × (list_any (λ k. is_eq (key_cmp k q)) (keys_given t (cell_of (after_op c.op c.old c.new))) ≡ false)
+  both_out = parted (λ k. is_eq (key_cmp k q)) (keys_given t (cell_of c.old)) (keys_given t (cell_of (after_op c.op c.old c.new))) out
 
-  old_out : (values : List Value) → all_of (map (cell_at c.old) (primary_of t)) ≡ Some values → is_eq (key_cmp (row_key t.id values) q) ≡ false
-  old_out values all = first_given t.id t.keys (cell_at c.old) values q form all both_out.0
+  old_out : (values : List Value) → all_of (map (cell_of c.old) (primary_of t)) ≡ Some values → is_eq (key_cmp (row_key t.id values) q) ≡ false
+  old_out values all = first_given t.id t.keys (cell_of c.old) values q form all both_out.0
 
-  new_out : (op : Op) → c.op ≡ op → (values : List Value) → all_of (map (cell_at (after_op op c.old c.new)) (primary_of t)) ≡ Some values → is_eq (key_cmp (row_key t.id values) q) ≡ false
+  new_out : (op : Op) → c.op ≡ op → (values : List Value) → all_of (map (cell_of (after_op op c.old c.new)) (primary_of t)) ≡ Some values → is_eq (key_cmp (row_key t.id values) q) ≡ false
   new_out op is values all =
-      first_given t.id t.keys (cell_at (after_op op c.old c.new)) values q form all (ap (λ (o : Op). list_any (λ k. is_eq (key_cmp k q)) (keys_given t (cell_at (after_op o c.old c.new)))) (sym is) ∙ both_out.1)
+      first_given t.id t.keys (cell_of (after_op op c.old c.new)) values q form all (ap (λ (o : Op). list_any (λ k. is_eq (key_cmp k q)) (keys_given t (cell_of (after_op o c.old c.new)))) (sym is) ∙ both_out.1)
 
 -- ---- what the cells give at the columns of the primary key
 
@@ -132,19 +132,19 @@ first_column n bound cell cells r u l =
     (same, subst (λ (m : ℕ). columns_rise (m + 1) cells ≡ true) same g.2, e.1)
 
 cell_value : (n bound k : ℕ) (cells : List (ℕ × Value)) → columns_rise n cells ≡ true → list_any (λ x. nat_le bound x.0) cells ≡ false → n + length cells ≡ bound → k < length cells →
-    cell_at cells (n + k) ≡ Some (value_in (cell_values cells) k)
+    cell_of cells (n + k) ≡ Some (value_in (cell_values cells) k)
 cell_value n bound k [] r u l low = absurd (omega (arith, low))
 cell_value n bound zero (cell ∷ cells) r u l low =
     let f = first_column n bound cell cells r u l in
     let same = f.0 in
     let is : (cell.0 == n + 0) ≡ true = grind (arith, nat_tests, same) in
-    ap (λ b. if b then Some cell.1 else cell_at cells (n + 0)) is
+    ap (λ b. if b then Some cell.1 else cell_of cells (n + 0)) is
 cell_value n bound (suc k) (cell ∷ cells) r u l low =
     let f = first_column n bound cell cells r u l in
     let same = f.0 in
     let other : (cell.0 == n + suc k) ≡ false = grind (arith, nat_tests, same) in
     let next : n + suc k ≡ n + 1 + k = omega arith in
-    ap (λ b. if b then Some cell.1 else cell_at cells (n + suc k)) other ∙ ap (cell_at cells) next
+    ap (λ b. if b then Some cell.1 else cell_of cells (n + suc k)) other ∙ ap (cell_of cells) next
     ∙ cell_value (n + 1) bound k cells f.1 f.2 (omega (arith, l)) (omega (arith, low))
 
 -- the value at a place of values made by the numbers of columns
@@ -154,18 +154,18 @@ number_at value n zero (c ∷ cs) low = let here : n ≡ n + 0 = omega arith in 
 number_at value n (suc k) (c ∷ cs) low = let next : n + 1 + k ≡ n + suc k = omega arith in number_at value (n + 1) k cs (omega (arith, low)) ∙ ap value next
 
 -- new cells before old ones
-joined_value : (xs ys : List (ℕ × Value)) (column : ℕ) (value : Value) → cell_at ys column ≡ Some value → cell_at (xs ++ ys) column ≡ Some (unwrap_or (cell_at xs column) value)
+joined_value : (xs ys : List (ℕ × Value)) (column : ℕ) (value : Value) → cell_of ys column ≡ Some value → cell_of (xs ++ ys) column ≡ Some (unwrap_or (cell_of xs column) value)
 joined_value [] ys column value e = e
 joined_value ((own, v) ∷ xs) ys column value e =
-    elim (own == column) as (λ b. (if b then Some v else cell_at (xs ++ ys) column) ≡ Some (unwrap_or (if b then Some v else cell_at xs column) value)) [ true ↦ refl | false ↦ joined_value xs ys column value e ]
+    elim (own == column) as (λ b. (if b then Some v else cell_of (xs ++ ys) column) ≡ Some (unwrap_or (if b then Some v else cell_of xs column) value)) [ true ↦ refl | false ↦ joined_value xs ys column value e ]
 
 -- a row that is as it was logged has the logged values
-logged_value : (row : List Value) (cells : List (ℕ × Value)) (column : ℕ) → difference row cells ≡ None → is_some (cell_at cells column) ≡ true → cell_at cells column ≡ Some (value_in row column)
+logged_value : (row : List Value) (cells : List (ℕ × Value)) (column : ℕ) → difference row cells ≡ None → is_some (cell_of cells column) ≡ true → cell_of cells column ≡ Some (value_in row column)
 logged_value row [] column d s = absurd (cc)
 logged_value row ((own, logged) ∷ cells) column d s =
-    elim (value_eq logged (value_in row own)) as (λ b. value_eq logged (value_in row own) ≡ b → (if b then difference row cells else Some (Differs own logged (value_in row own))) ≡ None → cell_at ((own, logged) ∷ cells) column ≡ Some (value_in row column)) [
+    elim (value_eq logged (value_in row own)) as (λ b. value_eq logged (value_in row own) ≡ b → (if b then difference row cells else Some (Differs own logged (value_in row own))) ≡ None → cell_of ((own, logged) ∷ cells) column ≡ Some (value_in row column)) [
       | true ↦ λ same h.
-          elim (own == column) as (λ b. (own == column) ≡ b → is_some (if b then Some logged else cell_at cells column) ≡ true → (if b then Some logged else cell_at cells column) ≡ Some (value_in row column)) [
+          elim (own == column) as (λ b. (own == column) ≡ b → is_some (if b then Some logged else cell_of cells column) ≡ true → (if b then Some logged else cell_of cells column) ≡ Some (value_in row column)) [
             | true ↦ λ is there.
                 let at : own ≡ column = grind (arith, nat_tests, is) in
                 ap (λ v. Some v) (value_is logged (value_in row own) same ∙ ap (value_in row) at)
@@ -180,36 +180,36 @@ module _ (t : TableRow) (c : Change) (keys : has_bad_keys t ≡ false) (form : i
   inside : (p : ℕ) → has_column (primary_of t) p ≡ true → p < length t.columns
   inside p has = within (primary_of t) (length t.columns) p (primary_within t keys) has
 
-  old_there : c.op ≢ Insert → columns_rise 0 c.old ≡ true → (p : ℕ) → has_column (primary_of t) p ≡ true → is_some (cell_at c.old p) ≡ true
+  old_there : c.op ≢ Insert → columns_rise 0 c.old ≡ true → (p : ℕ) → has_column (primary_of t) p ≡ true → is_some (cell_of c.old p) ≡ true
   old_there op r p has =
       let a = accepted t c accept in
       cell_there c.old p (old_has t c c.op p op r a.within_old a.shape a.logged has (inside p has))
 
   -- the old cells give the logged key, and those after the change the new row's
-  pub logged_given : c.op ≢ Insert → columns_rise 0 c.old ≡ true → all_of (map (cell_at c.old) (primary_of t)) ≡ Some (logged_key t c.old)
-  logged_given op r = all_there (cell_at c.old) (primary_of t) (old_there op r)
+  pub logged_given : c.op ≢ Insert → columns_rise 0 c.old ≡ true → all_of (map (cell_of c.old) (primary_of t)) ≡ Some (logged_key t c.old)
+  logged_given op r = all_there (cell_of c.old) (primary_of t) (old_there op r)
 
-  pub insert_given : c.op ≡ Insert → columns_rise 0 c.new ≡ true → all_of (map (cell_at c.new) (primary_of t)) ≡ Some (primary_key t (cell_values c.new))
+  pub insert_given : c.op ≡ Insert → columns_rise 0 c.new ≡ true → all_of (map (cell_of c.new) (primary_of t)) ≡ Some (primary_key t (cell_values c.new))
   insert_given op r =
       let a = accepted t c accept in
       let count = insert_count t c op accept in
-      let each : (p : ℕ) → has_column (primary_of t) p ≡ true → cell_at c.new p ≡ Some (value_in (cell_values c.new) p) =
+      let each : (p : ℕ) → has_column (primary_of t) p ≡ true → cell_of c.new p ≡ Some (value_in (cell_values c.new) p) =
       λ p has.
       let low = inside p has in
       let number : p ≡ 0 + p = omega arith in
-      ap (cell_at c.new) number ∙ cell_value 0 (length t.columns) p c.new r a.within (omega (arith, count)) (omega (arith, count, low)) in
-      all_values (cell_at c.new) (cell_values c.new) (primary_of t) each
+      ap (cell_of c.new) number ∙ cell_value 0 (length t.columns) p c.new r a.within (omega (arith, count)) (omega (arith, count, low)) in
+      all_values (cell_of c.new) (cell_values c.new) (primary_of t) each
 
-  pub update_given : (row : List Value) → c.op ≢ Insert → columns_rise 0 c.old ≡ true → difference row c.old ≡ None → all_of (map (cell_at (c.new ++ c.old)) (primary_of t)) ≡ Some (primary_key t (with_cells t row c.new))
+  pub update_given : (row : List Value) → c.op ≢ Insert → columns_rise 0 c.old ≡ true → difference row c.old ≡ None → all_of (map (cell_of (c.new ++ c.old)) (primary_of t)) ≡ Some (primary_key t (with_cells t row c.new))
   update_given row op r d =
-      let each : (p : ℕ) → has_column (primary_of t) p ≡ true → cell_at (c.new ++ c.old) p ≡ Some (value_in (with_cells t row c.new) p) =
+      let each : (p : ℕ) → has_column (primary_of t) p ≡ true → cell_of (c.new ++ c.old) p ≡ Some (value_in (with_cells t row c.new) p) =
       λ p has.
       let number : p ≡ 0 + p = omega arith in
       joined_value c.new c.old p (value_in row p) (logged_value row c.old p d (old_there op r p has))
       ∙ ap (λ v. Some v)
-      (ap (λ column. unwrap_or (cell_at c.new column) (value_in row column)) number
-      ∙ sym (number_at (λ column. unwrap_or (cell_at c.new column) (value_in row column)) 0 p t.columns (inside p has))) in
-      all_values (cell_at (c.new ++ c.old)) (with_cells t row c.new) (primary_of t) each
+      (ap (λ column. unwrap_or (cell_of c.new column) (value_in row column)) number
+      ∙ sym (number_at (λ column. unwrap_or (cell_of c.new column) (value_in row column)) 0 p t.columns (inside p has))) in
+      all_values (cell_of (c.new ++ c.old)) (with_cells t row c.new) (primary_of t) each
 
   old_key_out : c.op ≢ Insert → columns_rise 0 c.old ≡ true → (q : Key) → list_any (λ k. is_eq (key_cmp k q)) (conflict_keys_in t c) ≡ false → is_eq (key_cmp (row_key t.id (logged_key t c.old)) q) ≡ false
   old_key_out op r q out = old_out t c q form out (logged_key t c.old) (logged_given op r)

@@ -15,7 +15,7 @@ use Rattle.redo_vec.specs.declared.table.TableRow.{TableRow}
 use Rattle.redo_spec.specs.Dictionary.{table_of}
 use Rattle.row_apply.specs.declared.writes.Write.{Write}
 use Rattle.row_apply.specs.Overlaid.{writes_rise, written_key, are_of}
-use Rattle.row_apply.specs.Written.{writes_of, write_of}
+use Rattle.row_apply.specs.Written.{writes_in, write_of}
 use Rattle.row_apply.specs.Kept.{Slots, slot_at, ArePrimary, AreSlots, ChangesOnly}
 use Rattle.row_apply.proofs.Orders.{key_is}
 use Rattle.row_apply.proofs.Indexes.{StandIn, stand}
@@ -26,7 +26,7 @@ use Rattle.row_apply.proofs.Fitting.{both, join}
 pub same_key : (e : Key × Option (List Value)) → e.0.index ≡ 0 → written_key (write_of e) ≡ e.0
 same_key e p = λ i. record { table = e.0.table; index = sym p i; values = e.0.values }
 
-same_keys : (es : Slots) → ArePrimary es → map written_key (writes_of es) ≡ keys_of es
+same_keys : (es : Slots) → ArePrimary es → map written_key (writes_in es) ≡ keys_of es
 same_keys [] p = refl
 same_keys (e ∷ es) p = let head = same_key e p.0 in let tail = same_keys es p.1 in λ i. head i ∷ tail i
 
@@ -38,7 +38,7 @@ rising : (ks : List Key) → IsStrictlySortedBy key_cmp ks → keys_rise ks ≡ 
 rising [] s = refl
 rising (k ∷ ks) s = join (is_below_first k ks) (keys_rise ks) (first_below k ks (sorted_head key_cmp k ks s)) (rising ks (sorted_tail key_cmp k ks s))
 
-pub writes_rising : (es : Slots) → AreSlots es → writes_rise (writes_of es) ≡ true
+pub writes_rising : (es : Slots) → AreSlots es → writes_rise (writes_in es) ≡ true
 writes_rising es a = ap keys_rise (same_keys es a.primary) ∙ rising (keys_of es) a.ordered
 
 -- ---- an entry that comes last
@@ -64,17 +64,17 @@ found_passes : (b : Bool) (p : ℕ → Bool) (k : Key) (e : Key × Option (List 
 found_passes true p k e rest s t here there h = ap (λ (q : Key). p q.table) (key_is k e.0 t) ∙ here
 found_passes false p k e rest s t here there h = there h
 
-all_found : (p : ℕ → Bool) (es : Slots) (k : Key) (s : Option (List Value)) → list_all (λ (w : Write). p w.table) (writes_of es) ≡ true → slot_at es k ≡ Some s → p k.table ≡ true
+all_found : (p : ℕ → Bool) (es : Slots) (k : Key) (s : Option (List Value)) → list_all (λ (w : Write). p w.table) (writes_in es) ≡ true → slot_at es k ≡ Some s → p k.table ≡ true
 all_found p [] k s all f = absurd (cc)
 all_found p (e ∷ es) k s all f =
-    let g = both (p e.0.table) (list_all (λ (w : Write). p w.table) (writes_of es)) all in
+    let g = both (p e.0.table) (list_all (λ (w : Write). p w.table) (writes_in es)) all in
     found_passes (is_eq (key_cmp k e.0)) p k e (slot_at es k) s refl g.0 (λ h. all_found p es k s g.1 h) f
 
-from_found : (p : ℕ → Bool) (all es : Slots) → StandIn all es → ((k : Key) (s : Option (List Value)) → slot_at all k ≡ Some s → p k.table ≡ true) → list_all (λ (w : Write). p w.table) (writes_of es) ≡ true
+from_found : (p : ℕ → Bool) (all es : Slots) → StandIn all es → ((k : Key) (s : Option (List Value)) → slot_at all k ≡ Some s → p k.table ≡ true) → list_all (λ (w : Write). p w.table) (writes_in es) ≡ true
 from_found p all [] stands each = refl
-from_found p all (e ∷ es) stands each = join (p e.0.table) (list_all (λ (w : Write). p w.table) (writes_of es)) (each e.0 e.1 stands.0.0) (from_found p all es stands.1 each)
+from_found p all (e ∷ es) stands each = join (p e.0.table) (list_all (λ (w : Write). p w.table) (writes_in es)) (each e.0 e.1 stands.0.0) (from_found p all es stands.1 each)
 
-pub still_of : (tables : List TableRow) (t : TableRow) (old new : Slots) → table_of tables t.id ≡ Some t → AreSlots new → ChangesOnly t.id old new → are_of tables (writes_of old) ≡ true → are_of tables (writes_of new) ≡ true
+pub still_of : (tables : List TableRow) (t : TableRow) (old new : Slots) → table_of tables t.id ≡ Some t → AreSlots new → ChangesOnly t.id old new → are_of tables (writes_in old) ≡ true → are_of tables (writes_in new) ≡ true
 still_of tables t old new named n only of =
     from_found (λ id. is_some (table_of tables id)) new new (stand new n.primary n.ordered)
     (λ k s f. elim (k.table == t.id) as (λ b. (k.table == t.id) ≡ b → is_some (table_of tables k.table) ≡ true) [

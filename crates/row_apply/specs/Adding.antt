@@ -19,9 +19,9 @@ use Rattle.row_apply.specs.Soundness.{AreSoundRows, AreSound}
 use Rattle.row_apply.specs.Values.{has_at}
 
 -- the rows without the one that goes, if one goes
-abbrev pub minus : Option (List Value) → Rows → Rows
-minus None rows = rows
-minus (Some gone) rows = write_row rows gone None
+abbrev pub rows_without : Option (List Value) → Rows → Rows
+rows_without None rows = rows
+rows_without (Some gone) rows = write_row rows gone None
 
 -- the row of this key is the one that goes
 abbrev pub goes : Option (List Value) → List Value → Bool
@@ -34,13 +34,13 @@ values_of None = None
 values_of (Some k) = Some k.values
 
 -- the owner, unless it is the one that goes
-abbrev pub unless : Option (List Value) → List Value → Option (List Value)
-unless None owner = Some owner
-unless (Some gone) owner = if eq_by_cmp row_cmp gone owner then None else Some owner
+abbrev pub owner_unless : Option (List Value) → List Value → Option (List Value)
+owner_unless None owner = Some owner
+owner_unless (Some gone) owner = if eq_by_cmp row_cmp gone owner then None else Some owner
 
 -- the owner, unless it was written over
 abbrev pub if_beneath : Slots → ℕ → Option (List Value) → List Value → Option (List Value)
-if_beneath es table gone owner = if is_some (slot_at es (row_key table owner)) then None else unless gone owner
+if_beneath es table gone owner = if is_some (slot_at es (row_key table owner)) then None else owner_unless gone owner
 
 -- the written row of this key has these values
 abbrev pub OwnsWritten : Slots → ℕ → List ℕ → List Value → List Value → Type 0
@@ -52,11 +52,11 @@ IsUnowned es table columns values = (key row : List Value) → IsLive es table k
 
 -- the table, the rows written in place and without the one that goes
 abbrev pub table_without : Option (List Value) → Tables → Slots → TableRow → Table
-table_without gone tables es t = record { row = t; rows = minus gone (rows_seen tables es t) }
+table_without gone tables es t = record { row = t; rows = rows_without gone (rows_seen tables es t) }
 
 -- that table with a row added
-abbrev pub table_with : Option (List Value) → Tables → Slots → TableRow → List Value → Table
-table_with gone tables es t row = record { row = t; rows = entries.put row_cmp (primary_key t row) row (minus gone (rows_seen tables es t)) }
+abbrev pub table_with_row : Option (List Value) → Tables → Slots → TableRow → List Value → Table
+table_with_row gone tables es t row = record { row = t; rows = entries.put row_cmp (primary_key t row) row (rows_without gone (rows_seen tables es t)) }
 
 -- ---- what the index answers
 

@@ -16,7 +16,7 @@ use Rattle.redo_spec.specs.Dictionary.{uniques_of}
 use Rattle.redo_spec.specs.Tables.{Rows, Tables, Table, values_at}
 use Rattle.redo_spec.specs.Work.{rows_of}
 use Rattle.row_apply.specs.Overlaid.{rows_after}
-use Rattle.row_apply.specs.Written.{writes_of}
+use Rattle.row_apply.specs.Written.{writes_in}
 
 -- written rows by their keys: a row, or none where it is gone
 abbrev pub Slots : Type 0
@@ -136,9 +136,9 @@ IsFreeAmong t es gone row = (i : ℕ) (columns : List ℕ) (k x : List Value) �
     IsLive es t.id k x → goes_at gone (row_key t.id k) ≡ false → values_at x columns ≡ values_at row columns → ⊥
 
 -- the key that goes, if one does, is a primary key of the table
-abbrev pub IsOf : ℕ → Option Key → Type 0
-IsOf table None = Unit {0}
-IsOf table (Some k) = (k.table ≡ table) × (k.index ≡ 0)
+abbrev pub IsPrimaryOf : ℕ → Option Key → Type 0
+IsPrimaryOf table None = Unit {0}
+IsPrimaryOf table (Some k) = (k.table ≡ table) × (k.index ≡ 0)
 
 -- what other tables are indexed by is as it was
 abbrev pub IndexedOnly : ℕ → Indexed → Indexed → Type 0
@@ -148,7 +148,7 @@ IndexedOnly table old new = (id : ℕ) → (id == table) ≡ false → indexed_a
 
 -- the table's rows, those written in place
 abbrev pub rows_seen : Tables → Slots → TableRow → Rows
-rows_seen tables es t = rows_after t.id (writes_of es) (rows_of tables t.id)
+rows_seen tables es t = rows_after t.id (writes_in es) (rows_of tables t.id)
 
 abbrev pub table_seen : Tables → Slots → TableRow → Table
 table_seen tables es t = record { row = t; rows = rows_seen tables es t }

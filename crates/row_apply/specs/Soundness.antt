@@ -17,8 +17,8 @@ abbrev pub AreKeyed : TableRow → Rows → Type 0
 AreKeyed t rows = (key row : List Value) → entries.find row_cmp key rows ≡ Some row → primary_key t row ≡ key
 
 -- each row has as many values as its table has columns, each of its column
-abbrev pub AllFit : TableRow → Rows → Type 0
-AllFit t rows = (key row : List Value) → entries.find row_cmp key rows ≡ Some row → IsTrue (is_row_of t.columns row)
+abbrev pub AllFitTable : TableRow → Rows → Type 0
+AllFitTable t rows = (key row : List Value) → entries.find row_cmp key rows ≡ Some row → IsTrue (is_row_of t.columns row)
 
 -- two rows that have one value without Null in these columns are one row
 abbrev pub HaveOneOwner : List ℕ → Rows → Type 0
@@ -29,7 +29,7 @@ HaveOneOwner columns rows = (key other row like : List Value) → entries.find r
 pub record AreSoundRows (t : TableRow) (rows : Rows) : Type 0 where
   pub rising : IsTrue (entries.is_sorted row_cmp rows)
   pub keyed : AreKeyed t rows
-  pub fit : AllFit t rows
+  pub fit : AllFitTable t rows
   pub single : (index : ℕ) (columns : List ℕ) → slice_get (uniques_of t) index ≡ Some columns → HaveOneOwner columns rows
 
 -- each table's rows are

@@ -9,5 +9,5 @@ abbrev pub write_of : Key × Option (List Value) → Write
 write_of e = record { table = e.0.table; key = e.0.values; row = e.1 }
 
 -- the writes of the entries
-abbrev pub writes_of : List (Key × Option (List Value)) → List Write
-writes_of es = map write_of es
+abbrev pub writes_in : List (Key × Option (List Value)) → List Write
+writes_in es = map write_of es

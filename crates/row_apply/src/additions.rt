@@ -7,8 +7,8 @@ ghost use Rattle.redo_spec.specs.Dictionary.{table_of};
 ghost use Rattle.redo_spec.specs.Effect.{add_row};
 ghost use Rattle.redo_spec.specs.Tables.{primary_key, definitions_of};
 ghost use Rattle.rl_value.specs.Order.{row_cmp};
-ghost use Rattle.row_apply.specs.Adding.{minus, values_of, goes, table_without, table_with, IsReady};
-ghost use Rattle.row_apply.specs.Kept.{row_key, rows_seen, table_seen, ChangesOnly, SlotsOnly, AreWritten, keys_put, IsOf};
+ghost use Rattle.row_apply.specs.Adding.{rows_without, values_of, goes, table_without, table_with_row, IsReady};
+ghost use Rattle.row_apply.specs.Kept.{row_key, rows_seen, table_seen, ChangesOnly, SlotsOnly, AreWritten, keys_put, IsPrimaryOf};
 ghost use Rattle.row_apply.specs.KeptIn.{slots_of, IsKept};
 ghost use Rattle.row_apply.specs.Outcomes.{OnMiss};
 ghost use Rattle.row_apply.specs.Soundness.{AreSound, AreSoundRows};
@@ -42,7 +42,7 @@ fn exists<R: Rows>(
 ) -> bool
     requires ready { IsReady (R.tables base.now) over.now table.now }
     requires key { key.now ≡ row_key table.now.id key.now.values }
-    ensures { result ≡ is_some (entries.find row_cmp key.now.values (minus (values_of gone.now) (rows_seen (R.tables base.now) (slots_of over.now) table.now))) }
+    ensures { result ≡ is_some (entries.find row_cmp key.now.values (rows_without (values_of gone.now) (rows_seen (R.tables base.now) (slots_of over.now) table.now))) }
 {
     if is_going(gone, &key.values) {
         return false;
@@ -60,7 +60,7 @@ fn free_key<R: Rows>(
 ) -> Result<Key, EffectFault>
     requires ready { IsReady (R.tables base.now) over.now table.now }
     ensures key { IfOk result (λ key. key ≡ row_key table.now.id (primary_key table.now row.now)) }
-    ensures added { OnOk result (add_row (table_without (values_of gone.now) (R.tables base.now) (slots_of over.now) table.now) row.now ≡ Ok (table_with (values_of gone.now) (R.tables base.now) (slots_of over.now) table.now row.now)) }
+    ensures added { OnOk result (add_row (table_without (values_of gone.now) (R.tables base.now) (slots_of over.now) table.now) row.now ≡ Ok (table_with_row (values_of gone.now) (R.tables base.now) (slots_of over.now) table.now row.now)) }
     ensures miss { OnMiss result (λ miss. add_row (table_without (values_of gone.now) (R.tables base.now) (slots_of over.now) table.now) row.now ≡ Err miss) }
 {
     let Ok(values) = primary_key(over.alloc, table, row) else {
@@ -90,7 +90,7 @@ pub fn add<R: Rows>(
     requires base_sound { AreSound (R.tables base.now) }
     requires sound { AreSoundRows table.now (rows_seen (R.tables base.now) (slots_of over.old) table.now) }
     requires kept { IsKept over.old }
-    requires gone { IsOf table.now.id gone }
+    requires gone { IsPrimaryOf table.now.id gone }
     requires fits { IsTrue (is_row_of table.now.columns row) }
     ensures done { OnOk result (add_row (table_without (values_of gone) (R.tables base.now) (slots_of over.old) table.now) row ≡ Ok (table_seen (R.tables base.now) (slots_of over.new) table.now)) }
     ensures miss { OnMiss result (λ miss. add_row (table_without (values_of gone) (R.tables base.now) (slots_of over.old) table.now) row ≡ Err miss) }

@@ -3,7 +3,7 @@
 ghost use Rattle.std.specs.Prelude.{◌≡◌, ◌<◌, IfOk, OnOk};
 ghost use Rattle.std.specs.BTreeMap.{insert_entry};
 ghost use Rattle.rl_value.specs.Order.{key_cmp};
-ghost use Rattle.row_apply.specs.Written.{writes_of, write_of};
+ghost use Rattle.row_apply.specs.Written.{writes_in, write_of};
 
 use crate::writes::Write;
 use rl_value::{Key, NoMemory, Row};
@@ -65,7 +65,7 @@ pub fn copied_writes(
     alloc: Global,
     rows: &BTreeMap<Key, Option<Row>>,
 ) -> Result<Vec<Write>, NoMemory>
-    ensures { IfOk result (λ writes. writes.items ≡ writes_of rows.now.entries) }
+    ensures { IfOk result (λ writes. writes.items ≡ writes_in rows.now.entries) }
 {
     let Ok(mut writes) = Vec::with_capacity(alloc, rows.len()) else {
         return Err(NoMemory);
@@ -81,7 +81,7 @@ pub fn copied_writes(
 
 /// A write for each row, which gives up the rows.
 pub fn moved_writes(alloc: Global, rows: BTreeMap<Key, Option<Row>>) -> Result<Vec<Write>, NoMemory>
-    ensures { IfOk result (λ writes. writes.items ≡ writes_of rows.entries) }
+    ensures { IfOk result (λ writes. writes.items ≡ writes_in rows.entries) }
 {
     let Ok(mut writes) = Vec::with_capacity(alloc, rows.len()) else {
         return Err(NoMemory);

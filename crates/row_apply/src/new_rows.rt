@@ -3,7 +3,7 @@
 ghost use Rattle.std.specs.Prelude.{◌≡◌, ◌≢◌, ◌<◌, ◌≤◌, ◌+◌, length, IfOk, OnOk, IsTrue, map, unwrap_or, Some, None, Option, false, true};
 ghost use Rattle.std.specs.List.{filter_map};
 ghost use Rattle.std.specs.Option.{option_copied};
-ghost use Rattle.redo_spec.specs.ConflictKeys.{cell_at};
+ghost use Rattle.redo_spec.specs.ConflictKeys.{cell_of};
 ghost use Rattle.redo_spec.specs.Dictionary.{column_numbers, numbers_from, primary_of, has_bad_keys};
 ghost use Rattle.redo_spec.specs.ChangeForm.{change_fault_in};
 ghost use Rattle.redo_spec.specs.Effect.{cell_values, with_cells, logged_key, difference};
@@ -21,7 +21,7 @@ use rl_value::{Cells, Miss, NoMemory, Row, Value};
 use std::alloc::Global;
 
 fn cell_at(cells: &[(u8, Value)], column: u8) -> Option<&Value>
-    ensures { option_copied result ≡ cell_at cells.now column }
+    ensures { option_copied result ≡ cell_of cells.now column }
 {
     let mut rest = cells;
     while let [(found, value), others @ ..] = rest {
@@ -62,7 +62,7 @@ pub fn row_of_cells(alloc: Global, table: &TableRow, cells: &Cells) -> Result<Ro
 
 // What the cells say of the column, or else the row.
 fn value_after(row: &[Value], cells: &[(u8, Value)], column: u8) -> Result<Value, NoMemory>
-    ensures { IfOk result (λ value. value ≡ unwrap_or (cell_at cells.now column) (value_in row.now column)) }
+    ensures { IfOk result (λ value. value ≡ unwrap_or (cell_of cells.now column) (value_in row.now column)) }
 {
     match cell_at(cells, column) {
         Some(value) => value.copy(),
@@ -115,7 +115,7 @@ fn logged_values(
     columns: &[u8],
     cells: &[(u8, Value)],
 ) -> Result<Vec<Value>, NoMemory>
-    ensures { IfOk result (λ values. values.items ≡ filter_map (cell_at cells.now) columns.now) }
+    ensures { IfOk result (λ values. values.items ≡ filter_map (cell_of cells.now) columns.now) }
 {
     let mut values = Vec::new(alloc);
     let mut rest = columns;

@@ -11,7 +11,7 @@ ghost use Rattle.redo_spec.specs.Dictionary.{uniques_of};
 ghost use Rattle.redo_spec.specs.Effect.{taken_at, taken_by};
 ghost use Rattle.redo_spec.specs.Tables.{owner_in, values_at};
 ghost use Rattle.rl_value.specs.declared.miss.Miss.TheVariants.{Taken};
-ghost use Rattle.row_apply.specs.Adding.{minus, values_of, unless, if_beneath, owns, slot_has, written_owner, IsReady};
+ghost use Rattle.row_apply.specs.Adding.{rows_without, values_of, owner_unless, if_beneath, owns, slot_has, written_owner, IsReady};
 ghost use Rattle.row_apply.specs.Kept.{row_key, rows_seen};
 ghost use Rattle.row_apply.specs.KeptIn.{slots_of, owners_of};
 ghost use Rattle.row_apply.specs.Outcomes.{OfMiss, OnMiss};
@@ -64,7 +64,7 @@ fn owner_written<'a>(over: &'a Written, key: &Key, columns: &[u8]) -> Option<&'a
 }
 
 fn other_than<'a>(gone: &Option<Key>, owner: &'a Row) -> Option<&'a Row>
-    ensures { option_copied result ≡ unless (values_of gone.now) owner.now }
+    ensures { option_copied result ≡ owner_unless (values_of gone.now) owner.now }
 {
     match gone {
         None => Some(owner),
@@ -116,7 +116,7 @@ fn other_owner<'a, R: Rows>(
     requires unique { 0 < key.now.index }
     requires columns { slice_get table.now.keys key.now.index ≡ Some columns.now }
     requires filled { list_any is_null key.now.values ≡ false }
-    ensures { IfOk result (λ owner. option_copied owner ≡ owner_in (minus (values_of gone.now) (rows_seen (R.tables base.now) (slots_of over.now) table.now)) columns.now key.now.values) }
+    ensures { IfOk result (λ owner. option_copied owner ≡ owner_in (rows_without (values_of gone.now) (rows_seen (R.tables base.now) (slots_of over.now) table.now)) columns.now key.now.values) }
 {
     match owner_written(over, key, columns) {
         Some(owner) => Ok(other_than(gone, owner)),
@@ -154,8 +154,8 @@ fn check_unique<R: Rows>(
     requires ready { IsReady (R.tables base.now) over.now table.now }
     requires unique { 0 < index }
     requires columns { slice_get table.now.keys index ≡ Some columns.now }
-    ensures free { OnOk result (taken_at table.now (minus (values_of gone.now) (rows_seen (R.tables base.now) (slots_of over.now) table.now)) index columns.now (values_at row.now columns.now) ≡ None) }
-    ensures taken { OnMiss result (λ miss. taken_at table.now (minus (values_of gone.now) (rows_seen (R.tables base.now) (slots_of over.now) table.now)) index columns.now (values_at row.now columns.now) ≡ Some miss) }
+    ensures free { OnOk result (taken_at table.now (rows_without (values_of gone.now) (rows_seen (R.tables base.now) (slots_of over.now) table.now)) index columns.now (values_at row.now columns.now) ≡ None) }
+    ensures taken { OnMiss result (λ miss. taken_at table.now (rows_without (values_of gone.now) (rows_seen (R.tables base.now) (slots_of over.now) table.now)) index columns.now (values_at row.now columns.now) ≡ Some miss) }
 {
     let Ok(values) = key_row(over.alloc, row, columns) else {
         return Err(EffectFault::Memory);
@@ -184,8 +184,8 @@ pub fn check_uniques<R: Rows>(
     row: &Row,
 ) -> Result<(), EffectFault>
     requires ready { IsReady (R.tables base.now) over.now table.now }
-    ensures free { OnOk result (taken_by table.now (minus (values_of gone.now) (rows_seen (R.tables base.now) (slots_of over.now) table.now)) row.now (enumerate_from 1 (uniques_of table.now)) ≡ None) }
-    ensures taken { OnMiss result (λ miss. taken_by table.now (minus (values_of gone.now) (rows_seen (R.tables base.now) (slots_of over.now) table.now)) row.now (enumerate_from 1 (uniques_of table.now)) ≡ Some miss) }
+    ensures free { OnOk result (taken_by table.now (rows_without (values_of gone.now) (rows_seen (R.tables base.now) (slots_of over.now) table.now)) row.now (enumerate_from 1 (uniques_of table.now)) ≡ None) }
+    ensures taken { OnMiss result (λ miss. taken_by table.now (rows_without (values_of gone.now) (rows_seen (R.tables base.now) (slots_of over.now) table.now)) row.now (enumerate_from 1 (uniques_of table.now)) ≡ Some miss) }
 {
     let mut keys = unique_keys(table);
     let mut index: u8 = 1;

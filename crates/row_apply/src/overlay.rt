@@ -25,9 +25,9 @@ impl Model for Overlay {
     ghost Value = { List Write };
 
     ghost use Rattle.row_apply.specs.KeptIn.{slots_of, IsKept};
-    ghost use Rattle.row_apply.specs.Written.{writes_of};
+    ghost use Rattle.row_apply.specs.Written.{writes_in};
 
-    ghost view = { λ o. writes_of (slots_of o.written) };
+    ghost view = { λ o. writes_in (slots_of o.written) };
 
     ghost invariant = { λ o. IsKept o.written };
 }

@@ -13,8 +13,8 @@ ghost use Rattle.rl_value.specs.declared.key.Key.{Key};
 ghost use Rattle.redo_spec.specs.ConflictKeys.{is_null};
 ghost use Rattle.redo_spec.specs.Dictionary.{uniques_of};
 ghost use Rattle.redo_spec.specs.Tables.{values_at};
-ghost use Rattle.row_apply.specs.Kept.{row_key, slot_at, owner_at, indexed_at, AreSlots, AreIndexed, Sets, Puts, IndexedOnly, OneLive, IsFreeAmong, IsOf};
-ghost use Rattle.row_apply.specs.Written.{writes_of};
+ghost use Rattle.row_apply.specs.Kept.{row_key, slot_at, owner_at, indexed_at, AreSlots, AreIndexed, Sets, Puts, IndexedOnly, OneLive, IsFreeAmong, IsPrimaryOf};
+ghost use Rattle.row_apply.specs.Written.{writes_in};
 ghost use Rattle.row_apply.specs.KeptIn.{slots_of, owners_of, indexed_of, IsKept};
 
 use crate::copies::{copied_rows, moved_writes};
@@ -193,7 +193,7 @@ impl Written {
 
     fn put(&mut self, gone: Option<Key>, key: Key, row: Row) -> Result<(), NoMemory>
         requires primary { key.index ≡ 0 }
-        requires primary_gone { IsOf key.table gone }
+        requires primary_gone { IsPrimaryOf key.table gone }
         requires slots { AreSlots (slots_of self.old) }
         ensures put { OnOk result (Puts (slots_of self.old) (slots_of self.new) gone key row) }
         ensures slots { AreSlots (slots_of self.new) }
@@ -234,7 +234,7 @@ impl Written {
         requires kept { IsKept self.old }
         requires indexed { indexed_at (indexed_of self.old) table.now.id ≡ Some table.now.keys }
         requires key { key ≡ row_key table.now.id key.values }
-        requires gone { IsOf table.now.id gone }
+        requires gone { IsPrimaryOf table.now.id gone }
         requires free { IsFreeAmong table.now (slots_of self.old) gone row }
         ensures put { OnOk result (Puts (slots_of self.old) (slots_of self.new) gone key row) }
         ensures kept { IsKept self.new }
@@ -275,7 +275,7 @@ impl Written {
 
     /// A write for each row, which gives up the rows.
     pub fn into_items(self) -> Result<Vec<Write>, NoMemory>
-        ensures { IfOk result (λ writes. writes.items ≡ writes_of (slots_of self)) }
+        ensures { IfOk result (λ writes. writes.items ≡ writes_in (slots_of self)) }
     {
         let Written {
             rows,

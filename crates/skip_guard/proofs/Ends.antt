@@ -3,7 +3,7 @@ use Rattle.std.proofs.Common.{◌≡◌, ◌<◌, ◌≤◌, ℕ, List, [], ◌�
 use Rattle.std.proofs.lemmas.Bool.{or_left, or_right, and_parts}
 use Rattle.std.proofs.lemmas.Bool.Decides.{nat_tests}
 use Rattle.redo_spec.specs.Skips.{matches, after_some, after_one}
-use Rattle.skip_guard.specs.Comparing.{Found, Answer, Rest, found, found_next, matches_end, IsRight}
+use Rattle.skip_guard.specs.Comparing.{Found, Answer, Rest, comparison_of, comparison_after, matches_end, IsRight}
 
 -- the whole text is an end of it
 pub at_once : (f : List ℕ → Bool) (text : List ℕ) → f text ≡ true → after_some f text ≡ true
@@ -63,20 +63,20 @@ further c f n b bs (Answer answer) e l = e ∙ l
 further c f n b bs (Rest others more) e l = (e ∙ l.0, λ h. l.1 (behind_one c f b bs h), omega (arith, l.2), omega (arith, l.3))
 
 -- what is found behind a byte that is no %
-one_leads : (c : ℕ) (cs text : List ℕ) → ((rest : List ℕ) → Leads (matches cs) (length cs) rest (found cs rest)) →
-    Leads (after_one c (matches cs)) (suc (length cs)) text (found_next c (found cs) text)
+one_leads : (c : ℕ) (cs text : List ℕ) → ((rest : List ℕ) → Leads (matches cs) (length cs) rest (comparison_of cs rest)) →
+    Leads (after_one c (matches cs)) (suc (length cs)) text (comparison_after c (comparison_of cs) text)
 one_leads c cs [] rest = refl
 one_leads c cs (b ∷ bs) rest =
-    elim ((c == 95) || (c == b)) as (λ x. ((c == 95) || (c == b)) ≡ x → Leads (after_one c (matches cs)) (suc (length cs)) (b ∷ bs) (cond x (found cs bs) (Answer false))) [
-      | true ↦ λ h. further c (matches cs) (length cs) b bs (found cs bs) (ap (λ x. x && matches cs bs) h) (rest bs)
+    elim ((c == 95) || (c == b)) as (λ x. ((c == 95) || (c == b)) ≡ x → Leads (after_one c (matches cs)) (suc (length cs)) (b ∷ bs) (cond x (comparison_of cs bs) (Answer false))) [
+      | true ↦ λ h. further c (matches cs) (length cs) b bs (comparison_of cs bs) (ap (λ x. x && matches cs bs) h) (rest bs)
       | false ↦ λ h. ap (λ x. x && matches cs bs) h
     ] refl
 
 -- what is found leads to the answer
-leads : (pattern text : List ℕ) → Leads (matches pattern) (length pattern) text (found pattern text)
+leads : (pattern text : List ℕ) → Leads (matches pattern) (length pattern) text (comparison_of pattern text)
 leads [] text = refl
 leads (c ∷ cs) text =
-    elim (c == 37) as (λ x. Leads (cond x (after_some (matches cs)) (after_one c (matches cs))) (suc (length cs)) text (cond x (Rest cs text) (found_next c (found cs) text))) [
+    elim (c == 37) as (λ x. Leads (cond x (after_some (matches cs)) (after_one c (matches cs))) (suc (length cs)) text (cond x (Rest cs text) (comparison_after c (comparison_of cs) text))) [
       | true ↦ (refl, behind_any (matches cs) text, omega arith, omega arith)
       | false ↦ one_leads c cs text (leads cs)
     ]
@@ -87,5 +87,5 @@ answers pattern text (Rest others more) l =
     (l.0, both_or_none (matches_end pattern text) (matches_end others more) l.1 (λ h. at_once (matches pattern) text (l.0 ∙ h)), l.2, l.3)
 
 -- and so it is right
-pub is_right : (pattern text : List ℕ) → IsRight pattern text (found pattern text)
-is_right pattern text = answers pattern text (found pattern text) (leads pattern text)
+pub is_right : (pattern text : List ℕ) → IsRight pattern text (comparison_of pattern text)
+is_right pattern text = answers pattern text (comparison_of pattern text) (leads pattern text)

@@ -11,14 +11,14 @@ pub data Found : Type 0 where
   Rest : List ℕ → List ℕ → Found
 
 -- a byte of the pattern is compared, and then the rest
-abbrev pub found_next : ℕ → (List ℕ → Found) → List ℕ → Found
-found_next c rest [] = Answer false
-found_next c rest (b ∷ bs) = if (c == 95) || (c == b) then rest bs else Answer false
+abbrev pub comparison_after : ℕ → (List ℕ → Found) → List ℕ → Found
+comparison_after c rest [] = Answer false
+comparison_after c rest (b ∷ bs) = if (c == 95) || (c == b) then rest bs else Answer false
 
 -- what is found from the left up to a %
-abbrev pub found : List ℕ → List ℕ → Found
-found [] text = Answer (is_empty text)
-found (c ∷ cs) text = if c == 37 then Rest cs text else found_next c (found cs) text
+abbrev pub comparison_of : List ℕ → List ℕ → Found
+comparison_of [] text = Answer (is_empty text)
+comparison_of (c ∷ cs) text = if c == 37 then Rest cs text else comparison_after c (comparison_of cs) text
 
 -- what was found, as it is handed out
 abbrev pub found_of : Compared → Found

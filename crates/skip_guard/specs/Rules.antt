@@ -43,9 +43,9 @@ IsRefusal faults.Limit reason = reason ≡ Some faults.Limit
 IsRefusal faults.Memory reason = reason ≡ None
 
 -- an entry is taken where there is no reason against it, and comes back where it is refused
-abbrev pub Takes : {T : Type 0} → List Skip → SkipEntry → Result T (SkipFault × SkipEntry) → Type 0
-Takes skips entry (Ok done) = skip_fault skips (rule_of entry.rule) ≡ None
-Takes skips entry (Err (fault, back)) = IsRefusal fault (skip_fault skips (rule_of entry.rule)) × (back ≡ entry)
+abbrev pub TakesRule : {T : Type 0} → List Skip → SkipEntry → Result T (SkipFault × SkipEntry) → Type 0
+TakesRule skips entry (Ok done) = skip_fault skips (rule_of entry.rule) ≡ None
+TakesRule skips entry (Err (fault, back)) = IsRefusal fault (skip_fault skips (rule_of entry.rule)) × (back ≡ entry)
 
 -- the rule names a table of this SCHEMA.NAME
 abbrev pub names_text : Rule → List ℕ → Bool

@@ -5,7 +5,7 @@
 //! of the text, this one leaves too, with more before it.
 ghost use Rattle.std.specs.Prelude.{◌≡◌, ◌||◌, ◌==◌};
 ghost use Rattle.redo_spec.specs.Skips.{matches};
-ghost use Rattle.skip_guard.specs.Comparing.{found, found_of, matches_end, IsRight};
+ghost use Rattle.skip_guard.specs.Comparing.{comparison_of, found_of, matches_end, IsRight};
 
 /// How far a pattern was compared with a text from their beginnings.
 #[derive(Drop)]
@@ -25,7 +25,7 @@ fn stands_for(byte: u8, found: u8) -> bool
 
 // The bytes one after another, as specs/Comparing.antt has it.
 fn up_to_any<'a>(pattern: &'a [u8], text: &'a [u8]) -> Compared<'a>
-    ensures { found_of result ≡ found pattern.now text.now }
+    ensures { found_of result ≡ comparison_of pattern.now text.now }
 {
     let mut pattern_left = pattern;
     let mut text_left = text;

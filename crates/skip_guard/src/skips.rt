@@ -3,7 +3,7 @@ ghost use Rattle.std.specs.Prelude.{◌≡◌, ◌≤◌, ◌∷◌, ◌++◌, [
 ghost use Rattle.rl_value.specs.declared.pos.Pos.{Pos};
 ghost use Rattle.redo_spec.specs.Dictionary.{table_of};
 ghost use Rattle.redo_spec.specs.Skips.{skips_table, is_skipped, has_rule as has_equal};
-ghost use Rattle.skip_guard.specs.Rules.{skip_of, rule_of, are_skips, Takes};
+ghost use Rattle.skip_guard.specs.Rules.{skip_of, rule_of, are_skips, TakesRule};
 
 use crate::entry::{SkipEntry, SkipFault};
 use crate::naming::{has_rule, names_table, names_xid};
@@ -48,7 +48,7 @@ impl Skips {
     /// Takes one more entry, behind the others. Where it is refused, it comes back and the others stay as they were.
     pub fn add(&mut self, entry: SkipEntry) -> Result<(), (SkipFault, SkipEntry)>
         ensures added { OnOk result (self.new ≡ self.old ++ skip_of entry ∷ []) }
-        ensures exact { Takes self.old entry result }
+        ensures exact { TakesRule self.old entry result }
         ensures unchanged { OnErr result (self.new ≡ self.old) }
     {
         if has_rule(self.entries.as_slice(), &entry.rule) {

@@ -11,11 +11,11 @@ use Rattle.redo_spec.specs.Lines.{words, written, table_lines, fold_lines, end_l
 use Rattle.rl_value.specs.Literal.{row_text}
 use Rattle.primary.specs.declared.plain.Folded.{Folded as Plainly}
 use Rattle.primary.specs.Progress.{tables_shown}
-use Rattle.primary.specs.Starts.{shown}
-use Rattle.standby.specs.Printing.{spaced, end_words, with_end, row_line, rows_text, table_line, table_text, definitions_shown, applied_text, end_text}
+use Rattle.primary.specs.Starts.{folded_of}
+use Rattle.standby.specs.Printing.{spaced_words, end_words, with_end, row_line, rows_text, table_line, table_text, definitions_shown, applied_text, end_text}
 
 -- a first word, and each later one with a space before it
-pub joined-spaced : (w : List ℕ) (ws : List (List ℕ)) → join_with_byte 32 (w ∷ ws) ≡ w ++ spaced ws
+pub joined-spaced : (w : List ℕ) (ws : List (List ℕ)) → join_with_byte 32 (w ∷ ws) ≡ w ++ spaced_words ws
 joined-spaced w [] = sym (append-nil w)
 joined-spaced w (v ∷ ws) = ap (λ l. w ++ (32 ∷ l)) (joined-spaced v ws)
 
@@ -47,7 +47,7 @@ shown-written : (whole : Bool) (by : RowsById) (ts : List TableRow) → written 
 shown-written true by ts = tables-written by ts
 shown-written false by ts = refl
 
-pub fold-text : (f : Plainly) → written (fold_lines (shown f)) ≡
+pub fold-text : (f : Plainly) → written (fold_lines (folded_of f)) ≡
     applied_text f.scn ++ (flat_map (table_text f.tables) (definitions_shown f.whole f.dict.tables) ++ end_text f.dict.tables f.scn f.n f.end)
 fold-text f =
     let lines = flat_map table_lines (tables_shown f.whole f.dict.tables f.tables) in
@@ -59,7 +59,7 @@ fold-text f =
 
 -- what is put piece by piece is the whole text
 pub printed-all : (f : Plainly) (o₀ o₁ o₂ o₃ : List ℕ) (ts : List TableRow) → o₀ ≡ [] → o₁ ≡ o₀ ++ applied_text f.scn → ts ≡ definitions_shown f.whole f.dict.tables →
-    o₂ ≡ o₁ ++ flat_map (table_text f.tables) ts → o₃ ≡ o₂ ++ end_text f.dict.tables f.scn f.n f.end → o₃ ≡ written (fold_lines (shown f))
+    o₂ ≡ o₁ ++ flat_map (table_text f.tables) ts → o₃ ≡ o₂ ++ end_text f.dict.tables f.scn f.n f.end → o₃ ≡ written (fold_lines (folded_of f))
 printed-all f o₀ o₁ o₂ o₃ ts none first same second third =
     let a = applied_text f.scn in
     let end = end_text f.dict.tables f.scn f.n f.end in

@@ -8,7 +8,7 @@ use Rattle.redo_spec.specs.Fold.{Folded}
 use Rattle.redo_spec.specs.Redo.{fold_of_log}
 use Rattle.redo_spec.specs.Lines.{written, fold_lines}
 use Rattle.primary.specs.declared.plain.Folded.{Folded as Plainly}
-use Rattle.primary.specs.Starts.{shown}
+use Rattle.primary.specs.Starts.{folded_of}
 use Rattle.standby.specs.declared.fold.Printout.{Printout}
 use Rattle.standby.specs.declared.reading.FoldFault.{FoldFault}
 use Rattle.standby.specs.Printout.{IsPrintoutOf, IsWritten, IsPrefix, IsPrefixWritten}
@@ -20,7 +20,7 @@ pub written-prefix : (p : Printout) (text : List ℕ) (old new : Option (List �
 written-prefix p text old new P same a = record { count = a.count; lines = subst (λ whole. Appends old new (take a.count whole)) same a.prefix }
 
 one-prints : (seq : ℕ) (logs : ℕ → Option (List ℕ)) (folded : Result Plainly FoldFault) (p : Printout) (status : Status) (old new : Option (List ℕ)) →
-    IfOk folded (λ f. shown f ≡ fold_of_log seq (logs seq)) → IsPrintoutOf folded p → status ≡ p.status → Appends old new p.text.items → Prints logs seq status old new
+    IfOk folded (λ f. folded_of f ≡ fold_of_log seq (logs seq)) → IsPrintoutOf folded p → status ≡ p.status → Appends old new p.text.items → Prints logs seq status old new
 one-prints seq logs (Err fault) p status old new is out same a = absurd out
 one-prints seq logs (Ok f) p status old new is out same a = record {
   ended = same ∙ out.status ∙ ap (λ (g : Folded). end_status g.verdict) is;
@@ -28,7 +28,7 @@ one-prints seq logs (Ok f) p status old new is out same a = record {
 }
 
 one-prefix : (seq : ℕ) (logs : ℕ → Option (List ℕ)) (folded : Result Plainly FoldFault) (p : Printout) (old new : Option (List ℕ)) →
-    IfOk folded (λ f. shown f ≡ fold_of_log seq (logs seq)) → IsPrintoutOf folded p → IsPrefix p.text.items old new → PrintsPrefix logs seq old new
+    IfOk folded (λ f. folded_of f ≡ fold_of_log seq (logs seq)) → IsPrintoutOf folded p → IsPrefix p.text.items old new → PrintsPrefix logs seq old new
 one-prefix seq logs (Err fault) p old new is out a = absurd out
 one-prefix seq logs (Ok f) p old new is out a = record {
   count = a.count;
@@ -37,13 +37,13 @@ one-prefix seq logs (Ok f) p old new is out a = record {
 
 -- what was written of a fold is what the log that the archive tells is folded to
 pub prints : (known : Option (ℕ → Option (List ℕ))) (seq : ℕ) (folded : Result Plainly FoldFault) (printout : Result Printout FoldFault) (status : Status) (old new : Option (List ℕ)) →
-    Told known (λ logs. IfOk folded (λ f. shown f ≡ fold_of_log seq (logs seq))) → IfOk printout (IsPrintoutOf folded) → IsWritten printout status old new → Told known (λ logs. Prints logs seq status old new)
+    Told known (λ logs. IfOk folded (λ f. folded_of f ≡ fold_of_log seq (logs seq))) → IfOk printout (IsPrintoutOf folded) → IsWritten printout status old new → Told known (λ logs. Prints logs seq status old new)
 prints None seq folded printout status old new is out w = tt
 prints (Some logs) seq folded (Err fault) status old new is out w = absurd w
 prints (Some logs) seq folded (Ok p) status old new is out w = one-prints seq logs folded p status old new is out w.0 w.1
 
 pub prints_prefix : (known : Option (ℕ → Option (List ℕ))) (seq : ℕ) (folded : Result Plainly FoldFault) (printout : Result Printout FoldFault) (old new : Option (List ℕ)) →
-    Told known (λ logs. IfOk folded (λ f. shown f ≡ fold_of_log seq (logs seq))) → IfOk printout (IsPrintoutOf folded) → IsPrefixWritten printout old new → Told known (λ logs. PrintsPrefix logs seq old new)
+    Told known (λ logs. IfOk folded (λ f. folded_of f ≡ fold_of_log seq (logs seq))) → IfOk printout (IsPrintoutOf folded) → IsPrefixWritten printout old new → Told known (λ logs. PrintsPrefix logs seq old new)
 prints_prefix None seq folded printout old new is out w = tt
 prints_prefix (Some logs) seq folded (Err fault) old new is out w = absurd w
 prints_prefix (Some logs) seq folded (Ok p) old new is out w = one-prefix seq logs folded p old new is out w

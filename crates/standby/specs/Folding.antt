@@ -15,8 +15,8 @@ use Rattle.log_registry.specs.declared.fault.RegFault.{RegFault}
 use Rattle.log_registry.specs.declared.fault.RegFault.TheVariants as refusals
 use Rattle.redo_reader.specs.declared.cut.CutError.{CutError}
 use Rattle.redo_reader.specs.declared.cut.CutError.TheVariants as cuts
-use Rattle.primary.specs.Progress.{Progress, is_going, after_record, after_records, end_of}
-use Rattle.primary.specs.Starts.{after, first_start}
+use Rattle.primary.specs.Progress.{Progress, is_going, progress_after_record, progress_after_records, end_of}
+use Rattle.primary.specs.Starts.{progress_after, first_start}
 use Rattle.standby.specs.declared.reading.FoldFault.{FoldFault}
 use Rattle.standby.specs.declared.reading.Took.{Took}
 use Rattle.standby.specs.declared.reading.Took.TheVariants as tooks
@@ -24,20 +24,20 @@ use Rattle.standby.specs.declared.reading.FoldFault.TheVariants as faults
 
 -- how far the evaluator has come with these entries of a redo over empty tables, whose first log has this sequence and
 -- follows this SCN
-abbrev pub come : ℕ → ℕ → List Entry → Progress
-come first base entries = after (first_start first base) [] entries
+abbrev pub progress_from : ℕ → ℕ → List Entry → Progress
+progress_from first base entries = progress_after (first_start first base) [] entries
 
 -- a record that decodes goes to the evaluator, which then goes on or has ended; of another the evaluator sees nothing
 abbrev pub TakesIfDecoded : Header → Result RedoRec Fault → Progress → Progress → Took → Type 0
-TakesIfDecoded h (Ok r) old new tooks.On = (new ≡ after_record [] (h, r) old) × (is_going new ≡ true)
-TakesIfDecoded h (Ok r) old new tooks.Ended = (new ≡ after_record [] (h, r) old) × (is_going new ≡ false)
+TakesIfDecoded h (Ok r) old new tooks.On = (new ≡ progress_after_record [] (h, r) old) × (is_going new ≡ true)
+TakesIfDecoded h (Ok r) old new tooks.Ended = (new ≡ progress_after_record [] (h, r) old) × (is_going new ≡ false)
 TakesIfDecoded h (Ok r) old new (tooks.Undecoded cause) = ⊥
 TakesIfDecoded h (Err f) old new tooks.On = ⊥
 TakesIfDecoded h (Err f) old new tooks.Ended = ⊥
 TakesIfDecoded h (Err f) old new (tooks.Undecoded cause) = (new ≡ old) × (cause ≡ Vector f.fault f.place)
 
-abbrev pub Takes : Raw → Progress → Progress → Took → Type 0
-Takes raw old new took = TakesIfDecoded raw.head (record_at raw.bytes) old new took
+abbrev pub TakesRaw : Raw → Progress → Progress → Took → Type 0
+TakesRaw raw old new took = TakesIfDecoded raw.head (record_at raw.bytes) old new took
 
 -- what ends the redo with the record of this number; of a fold that has ended before, any end will do
 abbrev pub stop_behind : ℕ → Took → Option Stop
@@ -47,12 +47,12 @@ stop_behind rec (tooks.Undecoded cause) = Some (Malformed rec cause)
 
 -- with this end the fold is that of all records of the redo and of its end
 abbrev pub EndsAs : Redo → Progress → Progress → Stop → Type 0
-EndsAs redo old new stop = end_of stop new ≡ end_of redo.stop (after_records [] redo.entries old)
+EndsAs redo old new stop = end_of stop new ≡ end_of redo.stop (progress_after_records [] redo.entries old)
 
 -- with what is still ahead the evaluator comes as far as it did with what was ahead, and the redo ends alike
 pub record StepsOn (before now : Redo) (old new : Progress) : Type 0 where
   pub stop_is : before.stop ≡ now.stop
-  pub taken : after_records [] before.entries old ≡ after_records [] now.entries new
+  pub taken : progress_after_records [] before.entries old ≡ progress_after_records [] now.entries new
 
 abbrev pub Steps : Redo → Redo → Progress → Progress → Option Stop → Type 0
 Steps before now old new None = StepsOn before now old new

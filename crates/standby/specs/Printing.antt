@@ -12,8 +12,8 @@ use Rattle.redo_spec.specs.Tables.{Rows, RowsById, rows_by}
 use Rattle.redo_spec.specs.Lines.{words, end_line, verdict_text}
 
 -- each word with a space before it
-abbrev pub spaced : List (List ℕ) → List ℕ
-spaced words = flat_map (λ word. 32 ∷ word) words
+abbrev pub spaced_words : List (List ℕ) → List ℕ
+spaced_words words = flat_map (λ word. 32 ∷ word) words
 
 -- a line as it is written, with its LF
 abbrev pub with_end : List ℕ → List ℕ
@@ -41,7 +41,7 @@ definitions_shown whole tables = if whole then tables else []
 
 -- the words of the END line, joined word by word
 abbrev pub end_words : List TableRow → ℕ → ℕ → Verdict → List ℕ
-end_words tables scn n verdict = codes "END" ++ spaced (decimal scn ∷ decimal n ∷ verdict_text tables verdict)
+end_words tables scn n verdict = codes "END" ++ spaced_words (decimal scn ∷ decimal n ∷ verdict_text tables verdict)
 
 abbrev pub end_text : List TableRow → ℕ → ℕ → Verdict → List ℕ
 end_text tables scn n verdict = with_end (end_line tables scn n verdict)

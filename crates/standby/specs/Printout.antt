@@ -5,7 +5,7 @@ use Rattle.rl_base.specs.declared.status.Status.{Status}
 use Rattle.redo_spec.specs.Fold.{Folded}
 use Rattle.redo_spec.specs.Lines.{written, fold_lines}
 use Rattle.primary.specs.declared.plain.Folded.{Folded as Plainly}
-use Rattle.primary.specs.Starts.{shown}
+use Rattle.primary.specs.Starts.{folded_of}
 use Rattle.standby.specs.declared.fold.Printout.{Printout}
 use Rattle.standby.specs.declared.reading.FoldFault.{FoldFault}
 use Rattle.standby.specs.Answers.{IsEnd, end_status}
@@ -18,7 +18,7 @@ pub record IsPrintout (f : Folded) (p : Printout) : Type 0 where
 
 -- there is a fold, and this is its printout
 abbrev pub IsPrintoutOf : Result Plainly FoldFault → Printout → Type 0
-IsPrintoutOf (Ok f) p = IsPrintout (shown f) p
+IsPrintoutOf (Ok f) p = IsPrintout (folded_of f) p
 IsPrintoutOf (Err fault) p = ⊥
 
 -- there is a printout of this status, and its text was written

@@ -8,12 +8,12 @@ ghost use Rattle.redo_spec.specs.Fold.{fold_of_redo};
 ghost use Rattle.redo_spec.specs.Redo.{fold_of_log};
 ghost use Rattle.rl_value.specs.declared.cause.Cause.TheVariants.{Head};
 ghost use Rattle.rl_value.specs.declared.verdict.Stop.TheVariants.{Malformed};
-ghost use Rattle.log_registry.specs.Registered.{IsOf, AreOf, looked};
+ghost use Rattle.log_registry.specs.Registered.{IsToldBy, AreToldBy, answer_of_look};
 ghost use Rattle.log_registry.specs.declared.fault.RegFault.TheVariants.{ArchiveFault as ArchiveFaulted};
 ghost use Rattle.redo_reader.specs.Ahead.{redo_ahead};
 ghost use Rattle.primary.specs.Progress.{NoneWait};
-ghost use Rattle.primary.specs.Starts.{shown};
-ghost use Rattle.standby.specs.Folding.{come, IsFoldRefused};
+ghost use Rattle.primary.specs.Starts.{folded_of};
+ghost use Rattle.standby.specs.Folding.{progress_from, IsFoldRefused};
 ghost use Rattle.standby.specs.declared.reading.FoldFault.TheVariants.{Failed as FoldFailed};
 
 use crate::reading::{FoldFault, take_all};
@@ -38,7 +38,7 @@ pub struct FoldedLog<A: Archive> {
 
 // An evaluator before the first record of a redo over empty tables.
 fn first_evaluator(alloc: Global, first: u32, base: Scn) -> Result<Evaluator, NoMemory>
-    ensures begun { IfOk result (λ evaluator. evaluator ≡ come first base []) }
+    ensures begun { IfOk result (λ evaluator. evaluator ≡ progress_from first base []) }
     ensures none { IfOk result NoneWait }
 {
     Evaluator::new(alloc, Plain::first(alloc, first, base))
@@ -46,7 +46,7 @@ fn first_evaluator(alloc: Global, first: u32, base: Scn) -> Result<Evaluator, No
 
 // The fold of a redo without a record, of which no base is known.
 fn without_records(alloc: Global, seq: u32, stop: Stop) -> Result<Folded, FoldFault>
-    ensures folded { IfOk result (λ folded. shown folded ≡ fold_of_redo seq 0 [] stop) }
+    ensures folded { IfOk result (λ folded. folded_of folded ≡ fold_of_redo seq 0 [] stop) }
     ensures failed { result ≢ Err FoldFailed }
 {
     match first_evaluator(alloc, seq, 0) {
@@ -66,7 +66,7 @@ fn bad_header(fault: HeadFault) -> Stop
 
 // The fold of a log that is refused so.
 fn refused(alloc: Global, seq: u32, fault: RegFault) -> Result<Folded, FoldFault>
-    ensures folded { IfOk result (λ folded. IsFoldRefused seq fault (shown folded)) }
+    ensures folded { IfOk result (λ folded. IsFoldRefused seq fault (folded_of folded)) }
     ensures failed { result ≡ Err FoldFailed → fault ≡ ArchiveFaulted }
     ensures none { fault ≡ ArchiveFaulted → result ≡ Err FoldFailed }
 {
@@ -96,8 +96,8 @@ fn registry_of(alloc: Global, entry: LogEntry) -> Result<Registry, NoMemory>
 // What the reading side gives from here on, folded.
 fn folded_ahead<A: Archive>(alloc: Global, seq: u32, base: Scn, reader: ReadSide<A>) -> FoldedLog<A>
     requires first { reader.place.rec ≡ 0 }
-    ensures folded { Told (A.logs reader.archive) (λ logs. AreOf logs reader.registry →
-        IfOk result.folded (λ folded. shown folded ≡ (let redo = redo_ahead logs reader.registry reader.place in fold_of_redo seq base redo.entries redo.stop))) }
+    ensures folded { Told (A.logs reader.archive) (λ logs. AreToldBy logs reader.registry →
+        IfOk result.folded (λ folded. folded_of folded ≡ (let redo = redo_ahead logs reader.registry reader.place in fold_of_redo seq base redo.entries redo.stop))) }
     ensures logs { A.logs result.archive ≡ A.logs reader.archive }
     ensures failed { result.folded ≡ Err FoldFailed → Rose (A.faults reader.archive) (A.faults result.archive) }
     ensures count { A.faults reader.archive ≤ A.faults result.archive }
@@ -125,8 +125,8 @@ fn folded_ahead<A: Archive>(alloc: Global, seq: u32, base: Scn, reader: ReadSide
 
 // The fold of a log that was looked at.
 fn folded_entry<A: Archive>(alloc: Global, entry: LogEntry, archive: A) -> FoldedLog<A>
-    ensures folded { Told (A.logs archive) (λ logs. IsOf logs entry →
-        IfOk result.folded (λ folded. shown folded ≡ fold_of_log entry.head.seq (logs entry.head.seq))) }
+    ensures folded { Told (A.logs archive) (λ logs. IsToldBy logs entry →
+        IfOk result.folded (λ folded. folded_of folded ≡ fold_of_log entry.head.seq (logs entry.head.seq))) }
     ensures logs { A.logs result.archive ≡ A.logs archive }
     ensures failed { result.folded ≡ Err FoldFailed → Rose (A.faults archive) (A.faults result.archive) }
     ensures count { A.faults archive ≤ A.faults result.archive }
@@ -161,8 +161,8 @@ fn folded_entry<A: Archive>(alloc: Global, entry: LogEntry, archive: A) -> Folde
 
 // Looks at a log for the database that its own header names.
 fn seen<A: Archive>(archive: &mut A, seq: u32) -> Result<LogEntry, RegFault>
-    ensures exact { Told (A.logs archive.old) (λ logs. result ≢ Err ArchiveFaulted → result ≡ looked seq (logs seq)) }
-    ensures of { Told (A.logs archive.old) (λ logs. IfOk result (IsOf logs)) }
+    ensures exact { Told (A.logs archive.old) (λ logs. result ≢ Err ArchiveFaulted → result ≡ answer_of_look seq (logs seq)) }
+    ensures of { Told (A.logs archive.old) (λ logs. IfOk result (IsToldBy logs)) }
     ensures sequence { IfOk result (λ entry. entry.head.seq ≡ seq) }
     ensures failed { result ≡ Err ArchiveFaulted → Rose (A.faults archive.old) (A.faults archive.new) }
     ensures count { A.faults archive.old ≤ A.faults archive.new }
@@ -177,7 +177,7 @@ fn seen<A: Archive>(archive: &mut A, seq: u32) -> Result<LogEntry, RegFault>
 /// The fold over empty tables of the log of this sequence, or of its absence.
 pub fn folded_log<A: Archive>(alloc: Global, seq: u32, archive: A) -> FoldedLog<A>
     ensures folded { Told (A.logs archive) (λ logs.
-        IfOk result.folded (λ folded. shown folded ≡ fold_of_log seq (logs seq))) }
+        IfOk result.folded (λ folded. folded_of folded ≡ fold_of_log seq (logs seq))) }
     ensures logs { A.logs result.archive ≡ A.logs archive }
     ensures failed { result.folded ≡ Err FoldFailed → Rose (A.faults archive) (A.faults result.archive) }
     ensures count { A.faults archive ≤ A.faults result.archive }

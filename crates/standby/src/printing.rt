@@ -4,7 +4,7 @@ ghost use Rattle.std.specs.Prelude.{◌≡◌, ◌++◌, OnOk, IfOk};
 ghost use Rattle.std.specs.List.{flat_map};
 ghost use Rattle.redo_spec.specs.Lines.{written, fold_lines};
 ghost use Rattle.redo_spec.specs.Tables.{rows_by};
-ghost use Rattle.primary.specs.Starts.{shown};
+ghost use Rattle.primary.specs.Starts.{folded_of};
 ghost use Rattle.standby.specs.Printing.{applied_text, row_line, table_line, rows_text, table_text, definitions_shown, end_words, end_text};
 
 use crate::output::{push_bytes, push_decimal, push_number, push_word};
@@ -119,7 +119,7 @@ fn push_end(alloc: Global, out: &mut Vec<u8>, folded: &Folded) -> Result<(), NoM
 
 /// The lines of the fold.
 pub fn text_of(alloc: Global, folded: &Folded) -> Result<Vec<u8>, NoMemory>
-    ensures { IfOk result (λ text. text.items ≡ written (fold_lines (shown folded.now))) }
+    ensures { IfOk result (λ text. text.items ≡ written (fold_lines (folded_of folded.now))) }
 {
     let mut out = Vec::new(alloc);
     push_applied(alloc, &mut out, folded.scn)?;

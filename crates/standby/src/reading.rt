@@ -6,10 +6,10 @@
 ghost use Rattle.std.specs.Prelude.{◌≡◌, ◌≤◌, ◌<◌, ◌+◌, ◌^◌, [], IfOk, OnOk, Err, None, Ok};
 ghost use Rattle.rl_ports.specs.Faults.{Told, Rose};
 ghost use Rattle.redo_vec.specs.Cutting.{first_record};
-ghost use Rattle.log_registry.specs.Registered.{AreOf};
+ghost use Rattle.log_registry.specs.Registered.{AreToldBy};
 ghost use Rattle.redo_reader.specs.Ahead.{redo_ahead};
 ghost use Rattle.primary.specs.Progress.{recs_of, NoneWait};
-ghost use Rattle.standby.specs.Folding.{Takes, Steps, EndsAs, stop_behind};
+ghost use Rattle.standby.specs.Folding.{TakesRaw, Steps, EndsAs, stop_behind};
 ghost use Rattle.standby.specs.declared.reading.FoldFault.TheVariants.{Failed as FoldFailed};
 
 use primary::laws::no_rows_are_sound;
@@ -72,7 +72,7 @@ fn take_raw(alloc: Global, evaluator: &mut Evaluator, raw: &Raw) -> Result<Took,
     requires whole { first_record raw.now.bytes ≡ Ok (raw.now.bytes, []) }
     requires numbered { recs_of evaluator.old + 1 < 2 ^ 64 }
     requires none { NoneWait evaluator.old }
-    ensures taken { IfOk result (λ took. Takes raw.now evaluator.old evaluator.new took) }
+    ensures taken { IfOk result (λ took. TakesRaw raw.now evaluator.old evaluator.new took) }
     ensures number { OnOk result (recs_of evaluator.new ≤ recs_of evaluator.old + 1) }
     ensures none { OnOk result (NoneWait evaluator.new) }
 {
@@ -111,7 +111,7 @@ fn take_next<A: Archive>(
     requires numbered { recs_of evaluator.old ≤ reader.old.place.rec }
     requires none { NoneWait evaluator.old }
     requires room { reader.old.place.rec < 2 ^ 63 }
-    ensures steps { Told (A.logs reader.old.archive) (λ logs. AreOf logs reader.old.registry →
+    ensures steps { Told (A.logs reader.old.archive) (λ logs. AreToldBy logs reader.old.registry →
         IfOk result (Steps (redo_ahead logs reader.old.registry reader.old.place) (redo_ahead logs reader.new.registry reader.new.place) evaluator.old evaluator.new)) }
     ensures on { IfOk result (λ end. end ≡ None → reader.new.place.rec ≡ reader.old.place.rec + 1) }
     ensures numbered { IfOk result (λ end. recs_of evaluator.new ≤ reader.new.place.rec) }
@@ -142,7 +142,7 @@ pub fn take_all<A: Archive>(
     requires numbered { recs_of evaluator.old ≤ reader.old.place.rec }
     requires none { NoneWait evaluator.old }
     requires room { reader.old.place.rec < 2 ^ 63 }
-    ensures ends { Told (A.logs reader.old.archive) (λ logs. AreOf logs reader.old.registry →
+    ensures ends { Told (A.logs reader.old.archive) (λ logs. AreToldBy logs reader.old.registry →
         IfOk result (EndsAs (redo_ahead logs reader.old.registry reader.old.place) evaluator.old evaluator.new)) }
     ensures logs { A.logs reader.new.archive ≡ A.logs reader.old.archive }
     ensures failed { result ≡ Err FoldFailed → Rose (A.faults reader.old.archive) (A.faults reader.new.archive) }

@@ -5,7 +5,7 @@ ghost use Rattle.std.specs.Fmt.{decimal};
 ghost use Rattle.rl_value.specs.Literal.{literal, key_text, xid_text};
 ghost use Rattle.redo_spec.specs.Skips.{full_name};
 ghost use Rattle.redo_spec.specs.Lines.{table_name, column_name, miss_text, law_text, cause_text, stop_text, pos_text, verdict_text};
-ghost use Rattle.standby.specs.Printing.{spaced};
+ghost use Rattle.standby.specs.Printing.{spaced_words};
 
 use crate::fault_words::{cut_word, head_word, vector_word};
 use crate::output::{push_bytes, push_decimal, push_number, push_word};
@@ -88,7 +88,7 @@ fn push_lock(
     key: &Key,
     holder: Xid,
 ) -> Result<(), NoMemory>
-    ensures { OnOk result (out.new.items ≡ out.old.items ++ spaced (table_name dict.now.tables key.now.table
+    ensures { OnOk result (out.new.items ≡ out.old.items ++ spaced_words (table_name dict.now.tables key.now.table
         ∷ decimal key.now.index ∷ key_text key.now.values ∷ xid_text holder ∷ [])) }
 {
     push_table_name(out, dict, key.table)?;
@@ -98,7 +98,7 @@ fn push_lock(
 }
 
 fn push_law(alloc: Global, out: &mut Vec<u8>, dict: &Dict, fault: &LawFault) -> Result<(), NoMemory>
-    ensures { OnOk result (out.new.items ≡ out.old.items ++ spaced (law_text dict.now.tables fault.now)) }
+    ensures { OnOk result (out.new.items ≡ out.old.items ++ spaced_words (law_text dict.now.tables fault.now)) }
 {
     match fault {
         LawFault::Chain => push_word(out, b"CHAIN"),
@@ -125,7 +125,7 @@ fn push_law(alloc: Global, out: &mut Vec<u8>, dict: &Dict, fault: &LawFault) -> 
 }
 
 fn push_cause(alloc: Global, out: &mut Vec<u8>, dict: &Dict, cause: &Cause) -> Result<(), NoMemory>
-    ensures { OnOk result (out.new.items ≡ out.old.items ++ spaced (cause_text dict.now.tables cause.now)) }
+    ensures { OnOk result (out.new.items ≡ out.old.items ++ spaced_words (cause_text dict.now.tables cause.now)) }
 {
     match cause {
         Cause::Head(fault) => {
@@ -149,14 +149,14 @@ fn push_malformed(
     rec: u64,
     cause: &Cause,
 ) -> Result<(), NoMemory>
-    ensures { OnOk result (out.new.items ≡ out.old.items ++ spaced (decimal rec ∷ cause_text dict.now.tables cause.now)) }
+    ensures { OnOk result (out.new.items ≡ out.old.items ++ spaced_words (decimal rec ∷ cause_text dict.now.tables cause.now)) }
 {
     push_number(alloc, out, rec)?;
     push_cause(alloc, out, dict, cause)
 }
 
 fn push_stop(alloc: Global, out: &mut Vec<u8>, dict: &Dict, stop: &Stop) -> Result<(), NoMemory>
-    ensures { OnOk result (out.new.items ≡ out.old.items ++ spaced (stop_text dict.now.tables stop.now)) }
+    ensures { OnOk result (out.new.items ≡ out.old.items ++ spaced_words (stop_text dict.now.tables stop.now)) }
 {
     match stop {
         Stop::Drained => push_word(out, b"DRAINED"),
@@ -178,7 +178,7 @@ fn push_differs(
     logged: &Value,
     found: &Value,
 ) -> Result<(), NoMemory>
-    ensures { OnOk result (out.new.items ≡ out.old.items ++ spaced (literal logged.now ∷ literal found.now ∷ [])) }
+    ensures { OnOk result (out.new.items ≡ out.old.items ++ spaced_words (literal logged.now ∷ literal found.now ∷ [])) }
 {
     push_value(alloc, out, logged)?;
     push_value(alloc, out, found)
@@ -191,7 +191,7 @@ fn push_miss(
     table: u32,
     miss: &Miss,
 ) -> Result<(), NoMemory>
-    ensures { OnOk result (out.new.items ≡ out.old.items ++ spaced (miss_text dict.now.tables table miss.now)) }
+    ensures { OnOk result (out.new.items ≡ out.old.items ++ spaced_words (miss_text dict.now.tables table miss.now)) }
 {
     match miss {
         Miss::Absent(key) => {
@@ -226,7 +226,7 @@ pub fn push_verdict(
     dict: &Dict,
     verdict: &Verdict,
 ) -> Result<(), NoMemory>
-    ensures { OnOk result (out.new.items ≡ out.old.items ++ spaced (verdict_text dict.now.tables verdict.now)) }
+    ensures { OnOk result (out.new.items ≡ out.old.items ++ spaced_words (verdict_text dict.now.tables verdict.now)) }
 {
     match verdict {
         Verdict::Stopped(stop) => push_stop(alloc, out, dict, stop),

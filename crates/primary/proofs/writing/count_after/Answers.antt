@@ -1,5 +1,5 @@
 use Rattle.std.proofs.Common.{◌≡◌, ◌+◌, arith}
-use Rattle.primary.specs.ById.{added, removed}
+use Rattle.primary.specs.ById.{added_count, removed_count}
 use Rattle.primary.proofs.WriteLaws.{counted_after}
 use Rattle.primary.proofs.writing.count_after.Goals as goal
 
@@ -7,14 +7,14 @@ pub overflow_sub-result : goal.overflow_sub-result
 overflow_sub-result c =
     let exact = counted_after c.args.dict.now.tables c.args.tables.now c.args.writes.now c.tables.ensures.rise c.requires.sound c.requires.of_tables c.requires.rising in
     let before = c.requires.counted in
-    let more : c.in_ok-more.more ≡ c.args.count + added c.args.tables.now c.args.writes.now = c.in_ok-more.ensures.sum in
-    let fewer : c.in_ok-fewer.fewer ≡ removed c.args.tables.now c.args.writes.now = c.in_ok-fewer.ensures.exact in
+    let more : c.in_ok-more.more ≡ c.args.count + added_count c.args.tables.now c.args.writes.now = c.in_ok-more.ensures.sum in
+    let fewer : c.in_ok-fewer.fewer ≡ removed_count c.args.tables.now c.args.writes.now = c.in_ok-fewer.ensures.exact in
     omega (arith, exact, before, more, fewer)
 
 pub returns : goal.returns
 returns c =
     let exact = counted_after c.args.dict.now.tables c.args.tables.now c.args.writes.now c.tables.ensures.rise c.requires.sound c.requires.of_tables c.requires.rising in
     let before = c.requires.counted in
-    let more : c.in_ok-more.more ≡ c.args.count + added c.args.tables.now c.args.writes.now = c.in_ok-more.ensures.sum in
-    let fewer : c.in_ok-fewer.fewer ≡ removed c.args.tables.now c.args.writes.now = c.in_ok-fewer.ensures.exact in
+    let more : c.in_ok-more.more ≡ c.args.count + added_count c.args.tables.now c.args.writes.now = c.in_ok-more.ensures.sum in
+    let fewer : c.in_ok-fewer.fewer ≡ removed_count c.args.tables.now c.args.writes.now = c.in_ok-fewer.ensures.exact in
     record { exact = omega (arith, exact, before, more, fewer) }

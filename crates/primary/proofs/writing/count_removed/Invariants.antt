@@ -1,10 +1,10 @@
 use Rattle.std.proofs.Common.{◌≡◌, ◌+◌, length}
-use Rattle.primary.specs.ById.{removed}
+use Rattle.primary.specs.ById.{removed_count}
 use Rattle.primary.proofs.writing.count_removed.Given as goal
 
 -- what was counted, and what is left
 abbrev pub invariant-loop-rest : goal.invariant-loop-rest
-invariant-loop-rest l = l.fewer + removed l.tables l.rest ≡ removed l.tables l.writes
+invariant-loop-rest l = l.fewer + removed_count l.tables l.rest ≡ removed_count l.tables l.writes
 
 abbrev pub decreases-loop-rest : goal.decreases-loop-rest
 decreases-loop-rest l = length l.rest

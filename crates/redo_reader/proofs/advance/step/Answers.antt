@@ -1,6 +1,6 @@
 use Rattle.std.proofs.Common.{None, Some, arith, sym, subst}
 use Rattle.std.specs.Vec.Iter.{into_iter_items}
-use Rattle.redo_reader.specs.Steps.{IsReading, IsEnd, Shows}
+use Rattle.redo_reader.specs.Steps.{IsReading, IsLogEnd, Shows}
 use Rattle.redo_reader.proofs.StepLaws.{begins_reading, feeds_reading, breaks, drains, closes, next_log}
 use Rattle.redo_reader.proofs.advance.step.Goals as goal
 
@@ -17,7 +17,7 @@ returns-then-reading-clause-ends g c =
     let reading = c.args.reading.now in
     drains known c.args.registry.now reading.place reading.front (into_iter_items reading.waiting) c.in-Some.log c.look_on.new.log c.requires.none
     (subst (λ o. IsReading known c.args.registry.now reading.place reading.front (into_iter_items reading.waiting) o) c.in-Some.is c.requires.stands)
-    (subst (λ f. IsEnd known reading.front.seq c.in-Some.log c.look_on.new.log f) c.in-LogEnd-None.field-0-is (subst (λ l. Shows known reading.front.seq c.in-Some.log c.look_on.new.log l) c.in-LogEnd-None.is c.in_ok-raws.ensures.shows))
+    (subst (λ f. IsLogEnd known reading.front.seq c.in-Some.log c.look_on.new.log f) c.in-LogEnd-None.field-0-is (subst (λ l. Shows known reading.front.seq c.in-Some.log c.look_on.new.log l) c.in-LogEnd-None.is c.in_ok-raws.ensures.shows))
     (omega arith)
 
 pub returns-in-Raws-clause-stands : goal.returns-in-Raws-clause-stands
@@ -36,7 +36,7 @@ returns-in-LogEnd-Some-clause-ends g c =
     let reading = c.args.reading.now in
     breaks known c.args.registry.now reading.place reading.front (into_iter_items reading.waiting) c.in-Some.log c.look_on.new.log c.in-LogEnd-Some.fault c.requires.none
     (subst (λ o. IsReading known c.args.registry.now reading.place reading.front (into_iter_items reading.waiting) o) c.in-Some.is c.requires.stands)
-    (subst (λ f. IsEnd known reading.front.seq c.in-Some.log c.look_on.new.log f) c.in-LogEnd-Some.field-0-is (subst (λ l. Shows known reading.front.seq c.in-Some.log c.look_on.new.log l) c.in-LogEnd-Some.is c.in_ok-raws.ensures.shows))
+    (subst (λ f. IsLogEnd known reading.front.seq c.in-Some.log c.look_on.new.log f) c.in-LogEnd-Some.field-0-is (subst (λ l. Shows known reading.front.seq c.in-Some.log c.look_on.new.log l) c.in-LogEnd-Some.is c.in_ok-raws.ensures.shows))
 
 pub returns-else-reading-clause-stands : goal.returns-else-reading-clause-stands
 returns-else-reading-clause-stands g c =
@@ -44,5 +44,5 @@ returns-else-reading-clause-stands g c =
     let reading = c.args.reading.now in
     let read = closes known c.args.registry.now reading.place reading.front (into_iter_items reading.waiting) c.in-Some.log c.look_on.new.log c.requires.none
     (subst (λ o. IsReading known c.args.registry.now reading.place reading.front (into_iter_items reading.waiting) o) c.in-Some.is c.requires.stands)
-    (subst (λ f. IsEnd known reading.front.seq c.in-Some.log c.look_on.new.log f) c.in-LogEnd-None.field-0-is (subst (λ l. Shows known reading.front.seq c.in-Some.log c.look_on.new.log l) c.in-LogEnd-None.is c.in_ok-raws.ensures.shows)) in
+    (subst (λ f. IsLogEnd known reading.front.seq c.in-Some.log c.look_on.new.log f) c.in-LogEnd-None.field-0-is (subst (λ l. Shows known reading.front.seq c.in-Some.log c.look_on.new.log l) c.in-LogEnd-None.is c.in_ok-raws.ensures.shows)) in
     subst (λ k. IsReading k c.args.registry.now reading.place (next_log reading.front) (into_iter_items reading.waiting) None) (sym c.in_ok-raws.ensures.logs) read

@@ -1,13 +1,13 @@
 use Rattle.std.proofs.Common.{◌≡◌, ◌≤◌, ℕ, List, [], ◌∷◌, length, get_or, Bool, false, None, sym, ap, ◌∙◌, arith}
 use Rattle.rl_value.specs.LiteralValue.{unquoted}
-use Rattle.rl_text.specs.Reading.{behind}
+use Rattle.rl_text.specs.Reading.{with_read}
 use Rattle.rl_text.proofs.reading.unquote.Goals as goal
 
 -- a byte that may not stand there leaves nothing to read
 stopped : (read : List ℕ) (half : Bool) (rest bytes : List ℕ) → 1 ≤ length rest → ((after : List ℕ) → unquoted half (get_or rest 0 0 ∷ after) ≡ None)
-    → behind read (unquoted half rest) ≡ unquoted false bytes → None ≡ unquoted false bytes
+    → with_read read (unquoted half rest) ≡ unquoted false bytes → None ≡ unquoted false bytes
 stopped read half [] bytes some bad whole = absurd (omega arith)
-stopped read half (b ∷ after) bytes some bad whole = sym (ap (λ o. behind read o) (bad after)) ∙ whole
+stopped read half (b ∷ after) bytes some bad whole = sym (ap (λ o. with_read read o) (bad after)) ∙ whole
 
 pub returns-in-None : goal.returns-in-None
 returns-in-None c =

@@ -5,7 +5,7 @@ use Rattle.row_apply.specs.Kept.{table_seen}
 use Rattle.redo_spec.specs.ConflictKeys.{conflict_keys}
 use Rattle.row_apply.specs.Overlaid.{overlaid, are_of, WritesOnly}
 use Rattle.row_apply.specs.Soundness.{AreSound}
-use Rattle.row_apply.specs.Written.{writes_of}
+use Rattle.row_apply.specs.Written.{writes_in}
 use Rattle.row_apply.proofs.Keeping.{on_ok, on_miss}
 use Rattle.row_apply.proofs.Whole.{can_change, all_done, all_missed, all_sound, all_of}
 use Rattle.row_apply.proofs.Touched.{writes_all}
@@ -21,7 +21,7 @@ change_rows-requires g c = record {
 pub returns-clause-done : goal.returns-clause-done
 returns-clause-done g c =
     on_ok c.change_rows.result
-    (λ h. subst (λ (ws : List Write). effect_of (overlaid (g.R.Rows.tables c.args.base.now) ws) c.args.change.now ≡ Ok (overlaid (g.R.Rows.tables c.args.base.now) (writes_of c.change_rows.new.over.rows.entries))) c.over.view_is
+    (λ h. subst (λ (ws : List Write). effect_of (overlaid (g.R.Rows.tables c.args.base.now) ws) c.args.change.now ≡ Ok (overlaid (g.R.Rows.tables c.args.base.now) (writes_in c.change_rows.new.over.rows.entries))) c.over.view_is
     (all_done (g.R.Rows.tables c.args.base.now) c.args.dict.now.tables c.in-Some.table.now c.args.change.now c.requires.definitions c.in-Some.ensures.found c.over.inside.written.rows.entries c.change_rows.new.over.rows.entries
     c.def.ensures.rising c.requires.base_sound c.over.invariant.slots c.change_rows.ensures.kept.slots c.change_rows.ensures.others h))
     c.change_rows.ensures.done
@@ -51,7 +51,7 @@ returns-clause-of_tables g c of =
 pub returns-clause-only : goal.returns-clause-only
 returns-clause-only g c =
     on_ok c.change_rows.result
-    (λ only. subst (λ (ws : List Write). WritesOnly (conflict_keys c.args.dict.now.tables c.args.change.now) ws (writes_of c.change_rows.new.over.rows.entries)) c.over.view_is
+    (λ only. subst (λ (ws : List Write). WritesOnly (conflict_keys c.args.dict.now.tables c.args.change.now) ws (writes_in c.change_rows.new.over.rows.entries)) c.over.view_is
     (writes_only c.args.dict.now.tables c.in-Some.table.now c.args.change.now c.over.inside.written.rows.entries c.change_rows.new.over.rows.entries c.in-Some.ensures.found c.over.invariant.slots.primary c.change_rows.ensures.kept.slots.primary only))
     c.change_rows.ensures.only
 

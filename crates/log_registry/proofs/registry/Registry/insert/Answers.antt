@@ -1,7 +1,7 @@
 use Rattle.std.proofs.Common.{arith, ◌≡◌, ◌∙◌, ◌==◌, ℕ, ◌+◌, if◌then◌else◌, None, Some, OnOk, ap, sym, subst}
 use Rattle.std.specs.Map.{values_of}
-use Rattle.log_registry.specs.Keyed.{AreKeyed}
-use Rattle.log_registry.specs.Registered.{entry_of, with_log, count_of, AreOf}
+use Rattle.log_registry.specs.Keyed.{AreUnderSequences}
+use Rattle.log_registry.specs.Registered.{entry_of, with_log, count_of, AreToldBy}
 use Rattle.log_registry.proofs.ListLaws.{rises, keyed_insert, values_insert, found_with, count_with, are_with}
 use Rattle.log_registry.proofs.registry.Registry.insert.Goals as goal
 use Rattle.log_registry.proofs.registry.Registry.insert.Goals.{in-Ok, in-Err}
@@ -11,7 +11,7 @@ invariant_of-self c =
     let absent : entry_of c.args.entry.head.seq (values_of c.self.inside.logs.entries) ≡ None = ap (entry_of c.args.entry.head.seq) c.self.view_is ∙ c.requires.new in
     elim c.match-insert.branch [
       | in-Ok w ↦ keyed_insert c.args.entry c.self.inside.logs.entries c.insert.new.self.entries (omega arith) c.self.invariant absent w.in-Ok.ensures.entries
-      | in-Err w ↦ subst AreKeyed (sym w.in-Err.ensures.err) c.self.invariant
+      | in-Err w ↦ subst AreUnderSequences (sym w.in-Err.ensures.err) c.self.invariant
     ]
 
 pub returns-clause-rising : goal.returns-clause-rising
@@ -40,10 +40,10 @@ returns-clause-found c =
 pub returns-clause-archived : goal.returns-clause-archived
 returns-clause-archived c = λ logs are of.
     let absent : entry_of c.args.entry.head.seq (values_of c.self.inside.logs.entries) ≡ None = ap (entry_of c.args.entry.head.seq) c.self.view_is ∙ c.requires.new in
-    let P = AreOf logs (values_of c.insert.new.self.entries) in
+    let P = AreToldBy logs (values_of c.insert.new.self.entries) in
     elim c.match-insert.branch [
       | in-Ok w ↦ subst (λ r. OnOk r P) (sym w.result-is)
-          (subst (AreOf logs) (sym (values_insert c.args.entry c.self.inside.logs.entries c.insert.new.self.entries (omega arith) c.self.invariant absent w.in-Ok.ensures.entries ∙ ap (with_log c.args.entry) c.self.view_is))
+          (subst (AreToldBy logs) (sym (values_insert c.args.entry c.self.inside.logs.entries c.insert.new.self.entries (omega arith) c.self.invariant absent w.in-Ok.ensures.entries ∙ ap (with_log c.args.entry) c.self.view_is))
           (are_with logs c.args.entry c.args.self.now are of))
       | in-Err w ↦ subst (λ r. OnOk r P) (sym w.result-is) tt
     ]

@@ -4,7 +4,7 @@ use Rattle.redo_spec.specs.Standing.{Standing}
 use Rattle.redo_spec.specs.Tables.{Tables, assembled}
 use Rattle.row_apply.specs.Soundness.{AreSound}
 use Rattle.primary.specs.Progress.{OpenChanges, tables_shown}
-use Rattle.primary.specs.Running.{AreKept, Fits}
+use Rattle.primary.specs.Running.{AreKept, FitsStanding}
 use Rattle.primary.proofs.ApplyLaws.{shown_whole}
 use Rattle.primary.proofs.StepLaws.{fits_first}
 use Rattle.primary.proofs.evaluator.Evaluator.new.Goals as goal
@@ -28,7 +28,7 @@ invariant_of-result c =
     λ i. tables_shown ((whole ∙ ap (λ d. d.finished) law) i) (law i).tables start.tables in
     let sound : AreSound (tables_shown c.finished-whole.result c.in-Ok.law.dictionary.tables start.tables) = subst (λ (ts : Tables). AreSound ts) (sym tables) c.requires.fits.sound in (
       λ none. record {
-        fits = subst (λ (live : OpenChanges). Fits c.in-Ok.law live) (sym c.new-2.ensures.empty) (subst (λ (s : Standing). Fits s []) (sym c.in-Ok.ensures.begun) (fits_first start));
+        fits = subst (λ (live : OpenChanges). FitsStanding c.in-Ok.law live) (sym c.new-2.ensures.empty) (subst (λ (s : Standing). FitsStanding s []) (sym c.in-Ok.ensures.begun) (fits_first start));
         whole = whole;
         rec = sym (ap (λ (s : Standing). s.rec) c.in-Ok.ensures.begun);
         sound = sound;

@@ -4,7 +4,7 @@ use Rattle.redo_spec.specs.Tables.{assembled, row_count}
 use Rattle.redo_spec.specs.Fold.{live_row_limit, effects}
 use Rattle.row_apply.specs.Overlaid.{overlaid}
 use Rattle.primary.specs.Progress.{kept_of}
-use Rattle.primary.specs.Running.{ahead_of}
+use Rattle.primary.specs.Running.{fold_state_of}
 use Rattle.primary.proofs.ApplyLaws.{shown_whole, none_wait, tells, misses, over_limit, goes_on, not_below}
 use Rattle.primary.proofs.running.Running.apply.Goals as goal
 
@@ -14,7 +14,7 @@ returns-in-Err-Missed-clause-taken c =
     let ts = r.law.dictionary.tables in
     let cs : c.as_slice.result.now ≡ c.args.changes = c.as_slice.ensures.value ∙ c.into_items-changes.ensures.same in
     let told = tells (effects (assembled ts r.tables) (kept_of c.args.skips.now ts r.n c.as_slice.result.now)) c.in-Err-Missed.field-0 c.in-Err-Missed.pos c.in-Err-Missed.table c.in-Err-Missed.miss c.in-Err-Missed.field-0-is c.in-Err-Missed.ensures.missed in
-    misses c.args.skips.now c.args.scn c.args.changes (ahead_of r) ts r.tables (record { pos = c.in-Err-Missed.pos; table = c.in-Err-Missed.table; miss = c.in-Err-Missed.miss })
+    misses c.args.skips.now c.args.scn c.args.changes (fold_state_of r) ts r.tables (record { pos = c.in-Err-Missed.pos; table = c.in-Err-Missed.table; miss = c.in-Err-Missed.miss })
     (shown_whole r.whole ts r.tables c.requires.whole) (not_below c.args.self.now.made c.args.self.now.n c.if-self.false)
     (ap (λ (ps : List Placed). effects (assembled ts r.tables) (kept_of c.args.skips.now ts r.n ps)) (sym cs) ∙ told)
 
@@ -34,7 +34,7 @@ returns-then-not-branch-clause-taken c =
     ∙ ap (λ b. cond b (overlaid (assembled c.dict.result.now.tables r.tables) ws) (assembled c.dict.result.now.tables r.tables)) c.if-not-branch.true
     ∙ ap (λ e. assembled e.tables r.tables) d in
     let done : effects (assembled ts r.tables) (kept_of c.args.skips.now ts r.n c.as_slice.result.now) ≡ Ok (overlaid (assembled ts r.tables) ws) = c.in-Ok.ensures.done in
-    over_limit c.args.skips.now c.args.scn c.args.changes (ahead_of r) ts r.tables ws _
+    over_limit c.args.skips.now c.args.scn c.args.changes (fold_state_of r) ts r.tables ws _
     (shown_whole r.whole ts r.tables c.requires.whole) (not_below c.args.self.now.made c.args.self.now.n c.if-self.false)
     (ap (λ (ps : List Placed). effects (assembled ts r.tables) (kept_of c.args.skips.now ts r.n ps)) (sym cs) ∙ done)
     many (shown_whole r.whole ts c.put_in.new.tables c.requires.whole ∙ left)
@@ -55,7 +55,7 @@ returns-clause-taken c =
     ∙ ap (λ b. cond b (overlaid (assembled c.dict.result.now.tables r.tables) ws) (assembled c.dict.result.now.tables r.tables)) c.if-not-branch.false
     ∙ ap (λ e. overlaid (assembled e.tables r.tables) ws) d in
     let done : effects (assembled ts r.tables) (kept_of c.args.skips.now ts r.n c.as_slice.result.now) ≡ Ok (overlaid (assembled ts r.tables) ws) = c.in-Ok.ensures.done in
-    goes_on c.args.skips.now c.args.scn c.args.changes (ahead_of r) ts r.tables ws _ _ c.in-Some.made c.in-Some-checked_add.n
+    goes_on c.args.skips.now c.args.scn c.args.changes (fold_state_of r) ts r.tables ws _ _ c.in-Some.made c.in-Some-checked_add.n
     (shown_whole r.whole ts r.tables c.requires.whole) (not_below c.args.self.now.made c.args.self.now.n c.if-self.false)
     (ap (λ (ps : List Placed). effects (assembled ts r.tables) (kept_of c.args.skips.now ts r.n ps)) (sym cs) ∙ done)
     few (shown_whole r.whole ts c.put_in.new.tables c.requires.whole ∙ left) (c.in-Some.ensures).1 (c.in-Some-checked_add.ensures).1 (none_wait r.whole r.tables c.put_in.new.tables c.requires.whole)

@@ -3,11 +3,11 @@ use Rattle.std.specs.Vec.Iter.{into_iter_items}
 use Rattle.rl_value.specs.declared.verdict.Verdict.{Verdict}
 use Rattle.redo_vec.specs.declared.vector.Vector.{Vector}
 use Rattle.redo_spec.specs.Standing.{Standing, record_after}
-use Rattle.primary.specs.Progress.{Going, tables_shown, waiting_until, with_commit, live_after}
+use Rattle.primary.specs.Progress.{Going, tables_shown, waiting_until, progress_with_commit, live_after}
 use Rattle.redo_spec.specs.Dictionary.{Dictionary}
 use Rattle.redo_spec.specs.Tables.{Tables, assembled}
 use Rattle.row_apply.specs.Soundness.{AreSound}
-use Rattle.primary.specs.Running.{AreKept, ahead_of, progress_of}
+use Rattle.primary.specs.Running.{AreKept, fold_state_of, progress_of}
 use Rattle.primary.specs.declared.fault.TakeFault.TheVariants.{Unsound}
 use Rattle.primary.specs.declared.running.Running.{Running}
 use Rattle.primary.proofs.StepLaws.{Steps, bad_ends, bad_sound, fault_told, left_told, still_whole, steps_begin, steps_more, may_commit}
@@ -90,9 +90,9 @@ loop-vector-preserved c =
     let next : into_iter_items c.loop-vector.vector-iterator ≡ c.in-Some.vector ∷ rest = c.in-Some.ensures.steps.0 in
     let P : List Vector → Type 0 = λ vs. Steps c.args.skips.now c.args.head.now c.args.rec old now c.loop-vector.vec vs in
     let done = c.in_ok-verdict.ensures in
-    let goes : Going (ahead_of c.apply_commit.new.self) ≡ with_commit c.args.skips.now c.args.rec.scn c.in_ok-commit.commit (ahead_of (record now { live = c.take.new.self })) =
+    let goes : Going (fold_state_of c.apply_commit.new.self) ≡ progress_with_commit c.args.skips.now c.args.rec.scn c.in_ok-commit.commit (fold_state_of (record now { live = c.take.new.self })) =
     ap (λ (o : Option Verdict). progress_of o c.apply_commit.new.self) (sym c.in_default.is) ∙ done.taken in
     let live : c.take.new.self ≡ live_after (record { rec = now.rec; vec = c.loop-vector.vec }) c.in-Some.vector now.live = c.in_ok-commit.ensures.live in
     steps_more c.args.skips.now c.args.head.now c.args.rec old now c.apply_commit.new.self c.loop-vector.vec c.in-Some.vector rest (subst P next c.loop-vector.invariant)
     done.law done.rec done.whole (done.live ∙ live) done.sound done.kept
-    (goes ∙ (λ i. with_commit c.args.skips.now c.args.rec.scn (c.in_ok-commit.ensures.commit i) (record (ahead_of now) { live = live i })))
+    (goes ∙ (λ i. progress_with_commit c.args.skips.now c.args.rec.scn (c.in_ok-commit.ensures.commit i) (record (fold_state_of now) { live = live i })))

@@ -5,13 +5,13 @@ use Rattle.std.specs.Map.{set_value}
 use Rattle.rl_value.specs.Order.{key_cmp}
 use Rattle.redo_law.specs.Held.{pos_cmp, taken}
 use Rattle.std.specs.Option.{option_copied, option_copied_mut}
-use Rattle.redo_spec.specs.Standing.{touching}
+use Rattle.redo_spec.specs.Standing.{open_txn_after_change}
 use Rattle.redo_law.proofs.OpenList.{with_open_none}
 use Rattle.redo_law.proofs.TableLaws.{located, absent, some_is, some_none, more_keys, touch_list, touch_table}
 use Rattle.redo_law.proofs.table.Table.touch.Goals as goal
 
 pub returns-in_default-clause-touched : goal.returns-in_default-clause-touched
-returns-in_default-clause-touched c = sym (with_open_none (touching c.args.keys.items) c.args.xid _ (absent c.args.self.now c.args.xid c.requires.table (sym c.get.ensures.value ∙ ap option_copied c.in_default.is)))
+returns-in_default-clause-touched c = sym (with_open_none (open_txn_after_change c.args.keys.items) c.args.xid _ (absent c.args.self.now c.args.xid c.requires.table (sym c.get.ensures.value ∙ ap option_copied c.in_default.is)))
 
 pub returns-in-None-clause-touched : goal.returns-in-None-clause-touched
 returns-in-None-clause-touched c =

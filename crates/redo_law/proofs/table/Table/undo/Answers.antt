@@ -2,7 +2,7 @@ use Rattle.std.proofs.Common.{◌≡◌, sym, ap, ◌∙◌, refl, subst, arith}
 use Rattle.std.specs.BTreeMap as tree
 use Rattle.rl_value.specs.Order.{key_cmp}
 use Rattle.std.specs.Option.{option_copied, option_copied_mut}
-use Rattle.redo_spec.specs.Standing.{giving_back}
+use Rattle.redo_spec.specs.Standing.{open_txn_after_undo}
 use Rattle.redo_law.specs.declared.survivors.Open.{Open}
 use Rattle.redo_law.specs.OpenTable.{GivesBack}
 use Rattle.redo_law.proofs.OpenList.{with_open_none}
@@ -10,7 +10,7 @@ use Rattle.redo_law.proofs.TableLaws.{located, absent, some_is, some_none, undo_
 use Rattle.redo_law.proofs.table.Table.undo.Goals as goal
 
 pub returns-in_default-clause-undone : goal.returns-in_default-clause-undone
-returns-in_default-clause-undone c = sym (with_open_none giving_back c.args.xid _ (absent c.args.self.now c.args.xid c.requires (sym c.get.ensures.value ∙ ap option_copied c.in_default.is)))
+returns-in_default-clause-undone c = sym (with_open_none open_txn_after_undo c.args.xid _ (absent c.args.self.now c.args.xid c.requires (sym c.get.ensures.value ∙ ap option_copied c.in_default.is)))
 
 pub returns-in_default-get_mut-clause-undone : goal.returns-in_default-get_mut-clause-undone
 returns-in_default-get_mut-clause-undone c =
