@@ -42,13 +42,16 @@ eight_more (p ∷ q ∷ r ∷ s ∷ t ∷ u ∷ v ∷ []) b h = absurd (omega ar
 eight_more (p ∷ q ∷ r ∷ s ∷ t ∷ u ∷ v ∷ w ∷ a) b h = refl
 
 u16_more : (at : ℕ) (a b : List ℕ) → at + 2 ≤ length a → number_in w16 at (a ++ b) ≡ number_in w16 at a
-u16_more at a b h = ap (from_be_bytes w16) (drop-append-le at a b (omega arith)) ∙ two_more (drop at a) b (omega (arith, length-drop at a))
+u16_more at a b h = ap (from_be_bytes w16) (drop-append-le at a b (omega arith)) ∙
+    two_more (drop at a) b (omega (arith, length-drop at a))
 
 u32_more : (at : ℕ) (a b : List ℕ) → at + 4 ≤ length a → number_in w32 at (a ++ b) ≡ number_in w32 at a
-u32_more at a b h = ap (from_be_bytes w32) (drop-append-le at a b (omega arith)) ∙ four_more (drop at a) b (omega (arith, length-drop at a))
+u32_more at a b h = ap (from_be_bytes w32) (drop-append-le at a b (omega arith)) ∙
+    four_more (drop at a) b (omega (arith, length-drop at a))
 
 u64_more : (at : ℕ) (a b : List ℕ) → at + 8 ≤ length a → number_in w64 at (a ++ b) ≡ number_in w64 at a
-u64_more at a b h = ap (from_be_bytes w64) (drop-append-le at a b (omega arith)) ∙ eight_more (drop at a) b (omega (arith, length-drop at a))
+u64_more at a b h = ap (from_be_bytes w64) (drop-append-le at a b (omega arith)) ∙
+    eight_more (drop at a) b (omega (arith, length-drop at a))
 
 header_more : (a b : List ℕ) → 40 ≤ length a → header_in (a ++ b) ≡ header_in a
 header_more a b h =
@@ -82,17 +85,22 @@ fault_more seq a b h =
 
 -- ---- what is judged
 
-short_log : (seq : ℕ) (bytes : List ℕ) → nat_lt (length bytes) 40 ≡ true → entry_of_front (take 40 bytes) (length bytes) seq ≡ answer_of_look seq (Some bytes)
+short_log : (seq : ℕ) (bytes : List ℕ) → nat_lt (length bytes) 40 ≡ true →
+    entry_of_front (take 40 bytes) (length bytes) seq ≡ answer_of_look seq (Some bytes)
 short_log seq bytes short = rw short refl
 
-long_log : (seq : ℕ) (bytes a b : List ℕ) → a ++ b ≡ bytes → 40 ≤ length a → entry_of_front a (length bytes) seq ≡ answer_of_look seq (Some bytes)
+long_log : (seq : ℕ) (bytes a b : List ℕ) → a ++ b ≡ bytes → 40 ≤ length a →
+    entry_of_front a (length bytes) seq ≡ answer_of_look seq (Some bytes)
 long_log seq bytes a b is h =
-    let size : nat_lt (length bytes) 40 ≡ false = (let all = ap length is in let sum = length-append a b in grind (arith, nat_tests, all, sum, h)) in
-    ap (λ (c : Bool). cond c (Err (refusals.BadHeader heads.Short)) (entry_unless_refused (header_fault seq a) (Ok (entry_with (header_in a) (length bytes))))) size
+    let size : nat_lt (length bytes) 40 ≡ false = (let all = ap length is in let sum = length-append a b in
+    grind (arith, nat_tests, all, sum, h)) in
+    ap (λ (c : Bool). cond c (Err (refusals.BadHeader heads.Short))
+    (entry_unless_refused (header_fault seq a) (Ok (entry_with (header_in a) (length bytes))))) size
     ∙ sym (λ i. entry_unless_refused (fault_more seq a b h i) (Ok (entry_with (header_more a b h i) (length bytes))))
     ∙ ap (λ (bs : List ℕ). entry_unless_refused (header_fault seq bs) (Ok (entry_with (header_in bs) (length bytes)))) is
 
-of_size : (c : Bool) (seq : ℕ) (bytes : List ℕ) → nat_lt (length bytes) 40 ≡ c → entry_of_front (take 40 bytes) (length bytes) seq ≡ answer_of_look seq (Some bytes)
+of_size : (c : Bool) (seq : ℕ) (bytes : List ℕ) → nat_lt (length bytes) 40 ≡ c →
+    entry_of_front (take 40 bytes) (length bytes) seq ≡ answer_of_look seq (Some bytes)
 of_size true seq bytes is = short_log seq bytes is
 of_size false seq bytes is =
     let long : 40 ≤ length bytes = grind (arith, nat_tests, is) in
@@ -114,13 +122,15 @@ err_header (Some other) h fault e = cc
 abbrev Judging : ℕ → Option HeadFault → Header → Result LogEntry RegFault
 Judging size f h = cond (nat_lt size 40) (Err (refusals.BadHeader heads.Short)) (entry_unless_refused f (Ok (entry_with h size)))
 
-pub judged_err : (size : ℕ) (f : Option HeadFault) (h : Header) (fault : HeadFault) → 40 ≤ size → Err fault ≡ refused_by f h → Err (refusals.BadHeader fault) ≡ Judging size f h
+pub judged_err : (size : ℕ) (f : Option HeadFault) (h : Header) (fault : HeadFault) → 40 ≤ size → Err fault ≡ refused_by f h →
+    Err (refusals.BadHeader fault) ≡ Judging size f h
 judged_err size f h fault long e =
     let test : nat_lt size 40 ≡ false = grind (arith, nat_tests, long) in
     let is = err_header f h fault e in
     rw (test, is) refl
 
-pub judged_ok : (size : ℕ) (f : Option HeadFault) (h : Header) (head : Header) → 40 ≤ size → Ok head ≡ refused_by f h → Ok (entry_with head size) ≡ Judging size f h
+pub judged_ok : (size : ℕ) (f : Option HeadFault) (h : Header) (head : Header) → 40 ≤ size → Ok head ≡ refused_by f h →
+    Ok (entry_with head size) ≡ Judging size f h
 judged_ok size f h head long e =
     let test : nat_lt size 40 ≡ false = grind (arith, nat_tests, long) in
     let is = ok_header f h head e in
@@ -129,7 +139,8 @@ judged_ok size f h head long e =
 -- ---- what every answer has
 
 fifth_passes : (a b c d e f g h : Bool) →
-    first_fault ((a, heads.Short) ∷ (b, heads.Magic) ∷ (c, heads.Version) ∷ (d, heads.Thread) ∷ (e, heads.Sequence) ∷ (f, heads.Range) ∷ (g, heads.Records) ∷ (h, heads.Reserved) ∷ []) ≡ None → e ≡ false
+    first_fault ((a, heads.Short) ∷ (b, heads.Magic) ∷ (c, heads.Version) ∷ (d, heads.Thread) ∷ (e, heads.Sequence) ∷
+    (f, heads.Range) ∷ (g, heads.Records) ∷ (h, heads.Reserved) ∷ []) ≡ None → e ≡ false
 fifth_passes true b c d e f g h is = absurd (cc)
 fifth_passes false true c d e f g h is = absurd (cc)
 fifth_passes false false true d e f g h is = absurd (cc)
@@ -143,56 +154,70 @@ same_seq a b e = grind (arith, nat_tests)
 pub sequence_is : (seq : ℕ) (bytes : List ℕ) → header_fault seq bytes ≡ None → (header_in bytes).seq ≡ seq
 sequence_is seq bytes e =
     let h = header_in bytes in
-    same_seq h.seq seq (fifth_passes (nat_lt (length bytes) 40) (not (same_bytes (take 4 bytes) (codes "SRL1"))) (not (number_in w16 4 bytes == 1)) (not (number_in w16 6 bytes == 1)) (not (h.seq == seq)) (h.first == 0 || nat_le h.next h.first) (h.count == 0) (not (number_in w32 36 bytes == 0)) e)
+    same_seq h.seq seq (fifth_passes (nat_lt (length bytes) 40) (not (same_bytes (take 4 bytes) (codes "SRL1")))
+    (not (number_in w16 4 bytes == 1)) (not (number_in w16 6 bytes == 1)) (not (h.seq == seq))
+    (h.first == 0 || nat_le h.next h.first) (h.count == 0) (not (number_in w32 36 bytes == 0)) e)
 
 -- an entry of this sequence
 abbrev pub AskedFor : ℕ → LogEntry → Type 0
 AskedFor seq e = e.head.seq ≡ seq
 
-unless_fits : (f : Option HeadFault) (seq size : ℕ) (bytes : List ℕ) → header_fault seq bytes ≡ f → IfOk (entry_unless_refused f (Ok (entry_with (header_in bytes) size))) (AskedFor seq)
+unless_fits : (f : Option HeadFault) (seq size : ℕ) (bytes : List ℕ) → header_fault seq bytes ≡ f →
+    IfOk (entry_unless_refused f (Ok (entry_with (header_in bytes) size))) (AskedFor seq)
 unless_fits None seq size bytes is = sequence_is seq bytes is
 unless_fits (Some fault) seq size bytes is = tt
 
-sized_fits : (c : Bool) (seq : ℕ) (r : Result LogEntry RegFault) → IfOk r (AskedFor seq) → IfOk (cond c (Err (refusals.BadHeader heads.Short)) r) (AskedFor seq)
+sized_fits : (c : Bool) (seq : ℕ) (r : Result LogEntry RegFault) → IfOk r (AskedFor seq) →
+    IfOk (cond c (Err (refusals.BadHeader heads.Short)) r) (AskedFor seq)
 sized_fits true seq r h = tt
 sized_fits false seq r h = h
 
 pub judged_fits : (front : List ℕ) (size seq : ℕ) → IfOk (entry_of_front front size seq) (AskedFor seq)
 judged_fits front size seq = sized_fits (nat_lt size 40) seq _ (unless_fits (header_fault seq front) seq size front refl)
 
-unless_long : (f : Option HeadFault) (size : ℕ) (h : Header) → 40 ≤ size → IfOk (entry_unless_refused f (Ok (entry_with h size))) (λ e. 40 ≤ e.length)
+unless_long : (f : Option HeadFault) (size : ℕ) (h : Header) → 40 ≤ size →
+    IfOk (entry_unless_refused f (Ok (entry_with h size))) (λ e. 40 ≤ e.length)
 unless_long None size h long = long
 unless_long (Some fault) size h long = tt
 
-sized_long : (c : Bool) (f : Option HeadFault) (size : ℕ) (h : Header) → nat_lt size 40 ≡ c → IfOk (cond c (Err (refusals.BadHeader heads.Short)) (entry_unless_refused f (Ok (entry_with h size)))) (λ e. 40 ≤ e.length)
+sized_long : (c : Bool) (f : Option HeadFault) (size : ℕ) (h : Header) → nat_lt size 40 ≡ c →
+    IfOk (cond c (Err (refusals.BadHeader heads.Short)) (entry_unless_refused f (Ok (entry_with h size)))) (λ e. 40 ≤ e.length)
 sized_long true f size h is = tt
 sized_long false f size h is = unless_long f size h (grind (arith, nat_tests, is))
 
 pub judged_long : (front : List ℕ) (size seq : ℕ) → IfOk (entry_of_front front size seq) (λ e. 40 ≤ e.length)
 judged_long front size seq = sized_long (nat_lt size 40) (header_fault seq front) size (header_in front) refl
 
-unless_no_fault : (f : Option HeadFault) (size : ℕ) (h : Header) → entry_unless_refused f (Ok (entry_with h size)) ≡ Err refusals.ArchiveFault → ⊥
+unless_no_fault : (f : Option HeadFault) (size : ℕ) (h : Header) →
+    entry_unless_refused f (Ok (entry_with h size)) ≡ Err refusals.ArchiveFault → ⊥
 unless_no_fault None size h is = cc
 unless_no_fault (Some fault) size h is = cc
 
-sized_no_fault : (c : Bool) (r : Result LogEntry RegFault) → (r ≡ Err refusals.ArchiveFault → ⊥) → cond c (Err (refusals.BadHeader heads.Short)) r ≡ Err refusals.ArchiveFault → ⊥
+sized_no_fault : (c : Bool) (r : Result LogEntry RegFault) → (r ≡ Err refusals.ArchiveFault → ⊥) →
+    cond c (Err (refusals.BadHeader heads.Short)) r ≡ Err refusals.ArchiveFault → ⊥
 sized_no_fault true r h is = cc
 sized_no_fault false r h is = h is
 
 pub judged_no_fault : (front : List ℕ) (size seq : ℕ) → entry_of_front front size seq ≡ Err refusals.ArchiveFault → ⊥
-judged_no_fault front size seq is = sized_no_fault (nat_lt size 40) _ (unless_no_fault (header_fault seq front) size (header_in front)) is
+judged_no_fault front size seq is = sized_no_fault (nat_lt size 40) _
+    (unless_no_fault (header_fault seq front) size (header_in front)) is
 
-found_exact : (log : Option (List ℕ)) (seq size count : ℕ) (found : Option ℕ) (front : List ℕ) (r : Result LogEntry RegFault) → found ≡ Some size → found ≡ option_map length log → IsFront log front count →
+found_exact : (log : Option (List ℕ)) (seq size count : ℕ) (found : Option ℕ) (front : List ℕ) (r : Result LogEntry RegFault) →
+    found ≡ Some size → found ≡ option_map length log → IsFront log front count →
     r ≡ entry_of_front (take count front) size seq → r ≡ answer_of_look seq log
 found_exact None seq size count found front r is known read judge = absurd (cc)
 found_exact (Some bytes) seq size count found front r is known read judge =
     let same : size ≡ length bytes = cc in
     judge ∙ (λ i. entry_of_front (read i) (same i) seq) ∙ judged_log seq bytes
 
-pub told_exact : (known : Option (ℕ → Option (List ℕ))) (seq size count : ℕ) (found : Option ℕ) (front : List ℕ) (r : Result LogEntry RegFault) → found ≡ Some size → Told known (λ logs. found ≡ option_map length (logs seq)) → Told known (λ logs. IsFront (logs seq) front count) →
-    r ≡ entry_of_front (take count front) size seq → Told known (λ logs. (r ≡ Err refusals.ArchiveFault → ⊥) → r ≡ answer_of_look seq (logs seq))
+pub told_exact : (known : Option (ℕ → Option (List ℕ))) (seq size count : ℕ) (found : Option ℕ) (front : List ℕ)
+    (r : Result LogEntry RegFault) → found ≡ Some size → Told known (λ logs. found ≡ option_map length (logs seq)) →
+    Told known (λ logs. IsFront (logs seq) front count) →
+    r ≡ entry_of_front (take count front) size seq → Told known
+    (λ logs. (r ≡ Err refusals.ArchiveFault → ⊥) → r ≡ answer_of_look seq (logs seq))
 told_exact None seq size count found front r is known read judge = tt
-told_exact (Some logs) seq size count found front r is known read judge = λ ok. found_exact (logs seq) seq size count found front r is known read judge
+told_exact (Some logs) seq size count found front r is known read judge =
+    λ ok. found_exact (logs seq) seq size count found front r is known read judge
 
 -- ---- one database
 
@@ -204,7 +229,9 @@ abbrev length_or : ℕ → Result LogEntry RegFault → ℕ
 length_or n (Ok e) = e.length
 length_or n (Err fault) = n
 
-by_database : (f : Option HeadFault) (dbid : ℕ) (h : Header) (size : ℕ) (e : LogEntry) → Ok e ≡ entry_unless_refused f (Ok (entry_with h size)) → of_database dbid e.head e.length ≡ entry_unless_refused f (of_database dbid h size)
+by_database : (f : Option HeadFault) (dbid : ℕ) (h : Header) (size : ℕ) (e : LogEntry) →
+    Ok e ≡ entry_unless_refused f (Ok (entry_with h size)) →
+    of_database dbid e.head e.length ≡ entry_unless_refused f (of_database dbid h size)
 by_database None dbid h size e is =
     let head : e.head ≡ h = ap (λ (r : Result LogEntry RegFault). head_or h r) is in
     let length : e.length ≡ size = ap (λ (r : Result LogEntry RegFault). length_or size r) is in
@@ -212,17 +239,21 @@ by_database None dbid h size e is =
 by_database (Some fault) dbid h size e is = absurd (cc)
 
 -- a log that was looked at, for this database
-pub inspected_by : (seq dbid : ℕ) (log : Option (List ℕ)) (e : LogEntry) → Ok e ≡ answer_of_look seq log → of_database dbid e.head e.length ≡ answer_of_inspect seq dbid log
+pub inspected_by : (seq dbid : ℕ) (log : Option (List ℕ)) (e : LogEntry) → Ok e ≡ answer_of_look seq log →
+    of_database dbid e.head e.length ≡ answer_of_inspect seq dbid log
 inspected_by seq dbid None e is = absurd (cc)
 inspected_by seq dbid (Some bytes) e is = by_database (header_fault seq bytes) dbid (header_in bytes) (length bytes) e is
 
-refused_alike : (f : Option HeadFault) (dbid : ℕ) (h : Header) (size : ℕ) (fault : RegFault) → Err fault ≡ entry_unless_refused f (Ok (entry_with h size)) → Err fault ≡ entry_unless_refused f (of_database dbid h size)
+refused_alike : (f : Option HeadFault) (dbid : ℕ) (h : Header) (size : ℕ) (fault : RegFault) →
+    Err fault ≡ entry_unless_refused f (Ok (entry_with h size)) → Err fault ≡ entry_unless_refused f (of_database dbid h size)
 refused_alike None dbid h size fault is = absurd (cc)
 refused_alike (Some other) dbid h size fault is = is
 
-pub refused_by_look : (seq dbid : ℕ) (log : Option (List ℕ)) (fault : RegFault) → Err fault ≡ answer_of_look seq log → Err fault ≡ answer_of_inspect seq dbid log
+pub refused_by_look : (seq dbid : ℕ) (log : Option (List ℕ)) (fault : RegFault) → Err fault ≡ answer_of_look seq log →
+    Err fault ≡ answer_of_inspect seq dbid log
 refused_by_look seq dbid None fault is = is
-refused_by_look seq dbid (Some bytes) fault is = refused_alike (header_fault seq bytes) dbid (header_in bytes) (length bytes) fault is
+refused_by_look seq dbid (Some bytes) fault is = refused_alike (header_fault seq bytes) dbid (header_in bytes)
+    (length bytes) fault is
 
 abbrev LooksAs : Option (ℕ → Option (List ℕ)) → ℕ → Result LogEntry RegFault → Type 0
 LooksAs known seq r = Told known (λ logs. (r ≡ Err refusals.ArchiveFault → ⊥) → r ≡ answer_of_look seq (logs seq))
@@ -230,18 +261,23 @@ LooksAs known seq r = Told known (λ logs. (r ≡ Err refusals.ArchiveFault → 
 abbrev InspectsAs : Option (ℕ → Option (List ℕ)) → ℕ → ℕ → Result LogEntry RegFault → Type 0
 InspectsAs known seq dbid r = Told known (λ logs. (r ≡ Err refusals.ArchiveFault → ⊥) → r ≡ answer_of_inspect seq dbid (logs seq))
 
-pub told_refused : (known : Option (ℕ → Option (List ℕ))) (seq dbid : ℕ) (fault : RegFault) → LooksAs known seq (Err fault) → InspectsAs known seq dbid (Err fault)
+pub told_refused : (known : Option (ℕ → Option (List ℕ))) (seq dbid : ℕ) (fault : RegFault) → LooksAs known seq (Err fault) →
+    InspectsAs known seq dbid (Err fault)
 told_refused None seq dbid fault looks = tt
 told_refused (Some logs) seq dbid fault looks = λ no. refused_by_look seq dbid (logs seq) fault (looks no)
 
-pub told_found : (known : Option (ℕ → Option (List ℕ))) (seq dbid : ℕ) (e : LogEntry) → e.head.dbid ≡ dbid → LooksAs known seq (Ok e) → InspectsAs known seq dbid (Ok e)
+pub told_found : (known : Option (ℕ → Option (List ℕ))) (seq dbid : ℕ) (e : LogEntry) → e.head.dbid ≡ dbid →
+    LooksAs known seq (Ok e) → InspectsAs known seq dbid (Ok e)
 told_found None seq dbid e same looks = tt
 told_found (Some logs) seq dbid e same looks =
     let equal : (e.head.dbid == dbid) ≡ true = grind (arith, nat_tests, same) in
-    λ no. ap (λ (c : Bool). cond c (Ok e) (Err refusals.WrongDb)) (sym equal) ∙ inspected_by seq dbid (logs seq) e (looks (λ is. cc))
+    λ no. ap (λ (c : Bool). cond c (Ok e) (Err refusals.WrongDb)) (sym equal) ∙
+    inspected_by seq dbid (logs seq) e (looks (λ is. cc))
 
-pub told_other : (known : Option (ℕ → Option (List ℕ))) (seq dbid : ℕ) (e : LogEntry) → (e.head.dbid ≡ dbid → ⊥) → LooksAs known seq (Ok e) → InspectsAs known seq dbid (Err refusals.WrongDb)
+pub told_other : (known : Option (ℕ → Option (List ℕ))) (seq dbid : ℕ) (e : LogEntry) → (e.head.dbid ≡ dbid → ⊥) →
+    LooksAs known seq (Ok e) → InspectsAs known seq dbid (Err refusals.WrongDb)
 told_other None seq dbid e other looks = tt
 told_other (Some logs) seq dbid e other looks =
     let differs : (e.head.dbid == dbid) ≡ false = grind (arith, nat_tests, other) in
-    λ no. ap (λ (c : Bool). cond c (Ok e) (Err refusals.WrongDb)) (sym differs) ∙ inspected_by seq dbid (logs seq) e (looks (λ is. cc))
+    λ no. ap (λ (c : Bool). cond c (Ok e) (Err refusals.WrongDb)) (sym differs) ∙
+    inspected_by seq dbid (logs seq) e (looks (λ is. cc))

@@ -23,7 +23,8 @@ same_key : (seq key : ℕ) (e : LogEntry) → key ≡ e.head.seq → is_at (nat_
 same_key seq key e is = unsigned_tied seq key ∙ turned seq key ∙ ap (λ (n : ℕ). n == seq) is
 
 -- a look-up finds the entry of the sequence
-pub lookup-entry_of : (seq : ℕ) (ps : List (ℕ × LogEntry)) → AreUnderSequences ps → lookup (is_at (nat_cmp seq)) ps ≡ entry_of seq (values_of ps)
+pub lookup-entry_of : (seq : ℕ) (ps : List (ℕ × LogEntry)) → AreUnderSequences ps →
+    lookup (is_at (nat_cmp seq)) ps ≡ entry_of seq (values_of ps)
 lookup-entry_of seq [] k = refl
 lookup-entry_of seq (p ∷ ps) k =
     ap (λ (b : Bool). cond b (Some p.1) (lookup (is_at (nat_cmp seq)) ps)) (same_key seq p.0 p.1 k.0.same)
@@ -48,8 +49,11 @@ puts_at : (o : Ordering) (e : LogEntry) (p : ℕ × LogEntry) (ps rest : List (�
 puts_at Less e p ps rest fits is k other later =
     let below : e.head.seq < p.0 = ranked e.head.seq p.0 Less is in
     let key = k.0.same in
-    let before : nat_lt e.head.seq p.1.head.seq ≡ true = grind (arith, nat_tests, below, key) in
-    ((record { same = refl; fits = fits }, k), sym (ap (λ (b : Bool). cond b (e ∷ p.1 ∷ values_of ps) (p.1 ∷ with_log e (values_of ps))) before))
+    let before : nat_lt e.head.seq p.1.head.seq ≡ true = grind (arith, nat_tests, below, key) in (
+      (record { same = refl; fits = fits }, k),
+      sym (ap (λ (b : Bool). cond b (e ∷ p.1 ∷ values_of ps)
+          (p.1 ∷ with_log e (values_of ps))) before),
+    )
 puts_at Equal e p ps rest fits is k other later =
     let same : e.head.seq ≡ p.0 = ranked e.head.seq p.0 Equal is in
     let key = k.0.same in
@@ -58,20 +62,28 @@ puts_at Equal e p ps rest fits is k other later =
 puts_at Greater e p ps rest fits is k other later =
     let above : p.0 < e.head.seq = ranked e.head.seq p.0 Greater is in
     let key = k.0.same in
-    let behind : nat_lt e.head.seq p.1.head.seq ≡ false = grind (arith, nat_tests, above, key) in
-    ((k.0, later.0), ap (λ (es : List LogEntry). p.1 ∷ es) later.1 ∙ sym (ap (λ (b : Bool). cond b (e ∷ p.1 ∷ values_of ps) (p.1 ∷ with_log e (values_of ps))) behind))
+    let behind : nat_lt e.head.seq p.1.head.seq ≡ false = grind (arith, nat_tests, above, key) in (
+      (k.0, later.0),
+      ap (λ (es : List LogEntry). p.1 ∷ es) later.1 ∙
+          sym (ap (λ (b : Bool). cond b (e ∷ p.1 ∷ values_of ps) (p.1 ∷ with_log e (values_of ps))) behind),
+    )
 
-pub insert_puts : (e : LogEntry) (ps : List (ℕ × LogEntry)) → e.head.seq < 2 ^ 32 → AreUnderSequences ps → entry_of e.head.seq (values_of ps) ≡ None →
+pub insert_puts : (e : LogEntry) (ps : List (ℕ × LogEntry)) → e.head.seq < 2 ^ 32 → AreUnderSequences ps →
+    entry_of e.head.seq (values_of ps) ≡ None →
     Puts e ps (insert_entry nat_cmp ps e.head.seq e)
 insert_puts e [] fits k absent = ((record { same = refl; fits = fits }, tt), refl)
 insert_puts e (p ∷ ps) fits k absent =
     let head = absent_head (p.1.head.seq == e.head.seq) p.1 (entry_of e.head.seq (values_of ps)) absent in
-    puts_at (nat_cmp e.head.seq p.0) e p ps (insert_entry nat_cmp ps e.head.seq e) fits refl k head.0 (insert_puts e ps fits k.1 head.1)
+    puts_at (nat_cmp e.head.seq p.0) e p ps (insert_entry nat_cmp ps e.head.seq e) fits refl k head.0
+    (insert_puts e ps fits k.1 head.1)
 
-pub keyed_insert : (e : LogEntry) (ps after : List (ℕ × LogEntry)) → e.head.seq < 2 ^ 32 → AreUnderSequences ps → entry_of e.head.seq (values_of ps) ≡ None → after ≡ insert_entry nat_cmp ps e.head.seq e → AreUnderSequences after
+pub keyed_insert : (e : LogEntry) (ps after : List (ℕ × LogEntry)) → e.head.seq < 2 ^ 32 → AreUnderSequences ps →
+    entry_of e.head.seq (values_of ps) ≡ None → after ≡ insert_entry nat_cmp ps e.head.seq e → AreUnderSequences after
 keyed_insert e ps after fits k absent is = subst AreUnderSequences (sym is) (insert_puts e ps fits k absent).0
 
-pub values_insert : (e : LogEntry) (ps after : List (ℕ × LogEntry)) → e.head.seq < 2 ^ 32 → AreUnderSequences ps → entry_of e.head.seq (values_of ps) ≡ None → after ≡ insert_entry nat_cmp ps e.head.seq e → values_of after ≡ with_log e (values_of ps)
+pub values_insert : (e : LogEntry) (ps after : List (ℕ × LogEntry)) → e.head.seq < 2 ^ 32 → AreUnderSequences ps →
+    entry_of e.head.seq (values_of ps) ≡ None → after ≡ insert_entry nat_cmp ps e.head.seq e →
+    values_of after ≡ with_log e (values_of ps)
 values_insert e ps after fits k absent is = ap values_of is ∙ (insert_puts e ps fits k absent).1
 
 -- ---- what is found after an insert
@@ -79,13 +91,15 @@ values_insert e ps after fits k absent is = ap values_of is ∙ (insert_puts e p
 abbrev Found : LogEntry → ℕ → List LogEntry → List LogEntry → Type 0
 Found e seq before after = entry_of seq after ≡ cond (e.head.seq == seq) (Some e) (entry_of seq before)
 
-behind_other : (b c : Bool) (e first : LogEntry) (o before : Option LogEntry) → (b ≡ true → c ≡ true → ⊥) → o ≡ cond b (Some e) before → cond c (Some first) o ≡ cond b (Some e) (cond c (Some first) before)
+behind_other : (b c : Bool) (e first : LogEntry) (o before : Option LogEntry) → (b ≡ true → c ≡ true → ⊥) →
+    o ≡ cond b (Some e) before → cond c (Some first) o ≡ cond b (Some e) (cond c (Some first) before)
 behind_other true true e first o before apart h = absurd (apart refl refl)
 behind_other true false e first o before apart h = h
 behind_other false true e first o before apart h = refl
 behind_other false false e first o before apart h = h
 
-found_at : (b : Bool) (e : LogEntry) (first : LogEntry) (es : List LogEntry) (seq : ℕ) → (first.head.seq == e.head.seq) ≡ false → Found e seq es (with_log e es) →
+found_at : (b : Bool) (e : LogEntry) (first : LogEntry) (es : List LogEntry) (seq : ℕ) → (first.head.seq == e.head.seq) ≡ false →
+    Found e seq es (with_log e es) →
     Found e seq (first ∷ es) (cond b (e ∷ first ∷ es) (first ∷ with_log e es))
 found_at true e first es seq other later = refl
 found_at false e first es seq other later =
@@ -100,7 +114,8 @@ found_with e (first ∷ es) seq absent =
 
 -- ---- what holds of the entries after an insert
 
-count_at : (b : Bool) (e first : LogEntry) (es : List LogEntry) → count_of (with_log e es) ≡ e.head.count + count_of es → count_of (cond b (e ∷ first ∷ es) (first ∷ with_log e es)) ≡ e.head.count + (first.head.count + count_of es)
+count_at : (b : Bool) (e first : LogEntry) (es : List LogEntry) → count_of (with_log e es) ≡ e.head.count + count_of es →
+    count_of (cond b (e ∷ first ∷ es) (first ∷ with_log e es)) ≡ e.head.count + (first.head.count + count_of es)
 count_at true e first es later = refl
 count_at false e first es later = omega (arith, later)
 
@@ -108,18 +123,23 @@ pub count_with : (e : LogEntry) (es : List LogEntry) → count_of (with_log e es
 count_with e [] = refl
 count_with e (first ∷ es) = count_at (nat_lt e.head.seq first.head.seq) e first es (count_with e es)
 
-are_at : (b : Bool) (logs : ℕ → Option (List ℕ)) (e first : LogEntry) (es : List LogEntry) → AreToldBy logs (first ∷ es) → IsToldBy logs e → AreToldBy logs (with_log e es) → AreToldBy logs (cond b (e ∷ first ∷ es) (first ∷ with_log e es))
+are_at : (b : Bool) (logs : ℕ → Option (List ℕ)) (e first : LogEntry) (es : List LogEntry) → AreToldBy logs (first ∷ es) →
+    IsToldBy logs e → AreToldBy logs (with_log e es) → AreToldBy logs (cond b (e ∷ first ∷ es) (first ∷ with_log e es))
 are_at true logs e first es are of later = (of, are)
 are_at false logs e first es are of later = (are.0, later)
 
 -- the logs of an archive stay so
-pub are_with : (logs : ℕ → Option (List ℕ)) (e : LogEntry) (es : List LogEntry) → AreToldBy logs es → IsToldBy logs e → AreToldBy logs (with_log e es)
+pub are_with : (logs : ℕ → Option (List ℕ)) (e : LogEntry) (es : List LogEntry) → AreToldBy logs es → IsToldBy logs e →
+    AreToldBy logs (with_log e es)
 are_with logs e [] are of = (of, tt)
-are_with logs e (first ∷ es) are of = are_at (nat_lt e.head.seq first.head.seq) logs e first es are of (are_with logs e es are.1 of)
+are_with logs e (first ∷ es) are of = are_at (nat_lt e.head.seq first.head.seq) logs e first es are
+    of (are_with logs e es are.1 of)
 
 -- ---- in order
 
-rises_from : (key least : ℕ) (ps : List (ℕ × LogEntry)) → least ≤ key + 1 → AreUnderSequences ps → AllByRecursion (λ y. nat_cmp key y ≡ Less) (keys_of ps) → IsStrictlySortedBy nat_cmp (keys_of ps) → RiseFrom least (values_of ps)
+rises_from : (key least : ℕ) (ps : List (ℕ × LogEntry)) → least ≤ key + 1 → AreUnderSequences ps →
+    AllByRecursion (λ y. nat_cmp key y ≡ Less) (keys_of ps) → IsStrictlySortedBy nat_cmp (keys_of ps) →
+    RiseFrom least (values_of ps)
 unfolding IsStrictlySortedBy
 rises_from key least [] is k h s = tt
 rises_from key least (p ∷ ps) is k h s =
@@ -158,12 +178,14 @@ passed : (b : Bool) (p : ℕ × LogEntry) (kept others : List (ℕ × LogEntry))
 passed b p kept others is = ap (λ (c : Bool). cond c (p ∷ kept) others) is
 
 -- behind a key of the range all keys are in it
-all_kept : (seq key : ℕ) (ps : List (ℕ × LogEntry)) → nat_lt key seq ≡ false → AllByRecursion (λ y. nat_cmp key y ≡ Less) (keys_of ps) → from_seq seq ps ≡ ps
+all_kept : (seq key : ℕ) (ps : List (ℕ × LogEntry)) → nat_lt key seq ≡ false →
+    AllByRecursion (λ y. nat_cmp key y ≡ Less) (keys_of ps) → from_seq seq ps ≡ ps
 all_kept seq key [] e h = refl
 all_kept seq key (p ∷ ps) e h =
     let below : key < p.0 = ranked key p.0 Less (sym h.0) in
     let within : nat_lt p.0 seq ≡ false = grind (arith, nat_tests, below, e) in
-    chosen (range_contains nat_cmp (Included seq) Unbounded p.0) p (from_seq seq ps) (from_seq seq ps) (kept (nat_cmp seq p.0) seq p.0 refl within)
+    chosen (range_contains nat_cmp (Included seq) Unbounded p.0) p (from_seq seq ps) (from_seq seq ps)
+    (kept (nat_cmp seq p.0) seq p.0 refl within)
     ∙ ap (λ (es : List (ℕ × LogEntry)). p ∷ es) (all_kept seq key ps e h.1)
 
 from_at : (b : Bool) (seq : ℕ) (p : ℕ × LogEntry) (ps : List (ℕ × LogEntry)) → nat_lt p.0 seq ≡ b → p.0 ≡ p.1.head.seq →
@@ -171,48 +193,58 @@ from_at : (b : Bool) (seq : ℕ) (p : ℕ × LogEntry) (ps : List (ℕ × LogEnt
     values_of (from_seq seq (p ∷ ps)) ≡ entries_from seq (p.1 ∷ values_of ps)
 from_at true seq p ps e k h later =
     let its : nat_lt p.1.head.seq seq ≡ true = sym (ap (λ (n : ℕ). nat_lt n seq) k) ∙ e in
-    ap values_of (passed (range_contains nat_cmp (Included seq) Unbounded p.0) p (from_seq seq ps) (from_seq seq ps) (left_out (nat_cmp seq p.0) seq p.0 refl e))
+    ap values_of (passed (range_contains nat_cmp (Included seq) Unbounded p.0) p (from_seq seq ps) (from_seq seq ps)
+    (left_out (nat_cmp seq p.0) seq p.0 refl e))
     ∙ later ∙ sym (ap (λ (b : Bool). cond b (entries_from seq (values_of ps)) (p.1 ∷ values_of ps)) its)
 from_at false seq p ps e k h later =
     let its : nat_lt p.1.head.seq seq ≡ false = sym (ap (λ (n : ℕ). nat_lt n seq) k) ∙ e in
-    ap values_of (chosen (range_contains nat_cmp (Included seq) Unbounded p.0) p (from_seq seq ps) (from_seq seq ps) (kept (nat_cmp seq p.0) seq p.0 refl e))
+    ap values_of (chosen (range_contains nat_cmp (Included seq) Unbounded p.0) p (from_seq seq ps) (from_seq seq ps)
+    (kept (nat_cmp seq p.0) seq p.0 refl e))
     ∙ ap (λ (es : List (ℕ × LogEntry)). p.1 ∷ values_of es) (all_kept seq p.0 ps e h)
     ∙ sym (ap (λ (b : Bool). cond b (entries_from seq (values_of ps)) (p.1 ∷ values_of ps)) its)
 
 -- the range from a sequence on
-pub from_is : (seq : ℕ) (ps : List (ℕ × LogEntry)) → AreUnderSequences ps → IsStrictlySortedBy nat_cmp (keys_of ps) → values_of (from_seq seq ps) ≡ entries_from seq (values_of ps)
+pub from_is : (seq : ℕ) (ps : List (ℕ × LogEntry)) → AreUnderSequences ps → IsStrictlySortedBy nat_cmp (keys_of ps) →
+    values_of (from_seq seq ps) ≡ entries_from seq (values_of ps)
 unfolding IsStrictlySortedBy
 from_is seq [] k h = refl
 from_is seq (p ∷ ps) k h = from_at (nat_lt p.0 seq) seq p ps refl k.0.same h.0 (from_is seq ps k.1 h.1)
 
-keyed_at : (b : Bool) (p : ℕ × LogEntry) (ps : List (ℕ × LogEntry)) → IsUnderSequence p → AreUnderSequences ps → AreUnderSequences (cond b (p ∷ ps) ps)
+keyed_at : (b : Bool) (p : ℕ × LogEntry) (ps : List (ℕ × LogEntry)) → IsUnderSequence p → AreUnderSequences ps →
+    AreUnderSequences (cond b (p ∷ ps) ps)
 keyed_at true p ps k later = (k, later)
 keyed_at false p ps k later = later
 
 keyed_from : (seq : ℕ) (ps : List (ℕ × LogEntry)) → AreUnderSequences ps → AreUnderSequences (from_seq seq ps)
 keyed_from seq [] k = tt
-keyed_from seq (p ∷ ps) k = keyed_at (range_contains nat_cmp (Included seq) Unbounded p.0) p (from_seq seq ps) k.0 (keyed_from seq ps k.1)
+keyed_from seq (p ∷ ps) k = keyed_at (range_contains nat_cmp (Included seq) Unbounded p.0) p (from_seq seq ps) k.0
+    (keyed_from seq ps k.1)
 
 -- the first of the range, under its sequence
-pub first_from : (seq key : ℕ) (e : LogEntry) (rest ps : List (ℕ × LogEntry)) → AreUnderSequences ps → IsStrictlySortedBy nat_cmp (keys_of ps) → from_seq seq ps ≡ (key, e) ∷ rest →
+pub first_from : (seq key : ℕ) (e : LogEntry) (rest ps : List (ℕ × LogEntry)) → AreUnderSequences ps →
+    IsStrictlySortedBy nat_cmp (keys_of ps) → from_seq seq ps ≡ (key, e) ∷ rest →
     (key ≡ e.head.seq) × (entries_from seq (values_of ps) ≡ e ∷ values_of rest)
 first_from seq key e rest ps k h is =
     let its : AreUnderSequences ((key, e) ∷ rest) = subst AreUnderSequences is (keyed_from seq ps k) in
     (its.0.same, sym (from_is seq ps k h) ∙ ap values_of is)
 
-pub none_from : (seq : ℕ) (ps : List (ℕ × LogEntry)) → AreUnderSequences ps → IsStrictlySortedBy nat_cmp (keys_of ps) → from_seq seq ps ≡ [] → entries_from seq (values_of ps) ≡ []
+pub none_from : (seq : ℕ) (ps : List (ℕ × LogEntry)) → AreUnderSequences ps → IsStrictlySortedBy nat_cmp (keys_of ps) →
+    from_seq seq ps ≡ [] → entries_from seq (values_of ps) ≡ []
 none_from seq ps k h is = sym (from_is seq ps k h) ∙ ap values_of is
 
 -- ---- what comes next
 
-pub is_log : (seq key : ℕ) (e : LogEntry) (es all : List LogEntry) → key ≡ seq → (key ≡ e.head.seq) × (all ≡ e ∷ es) → Log e ≡ next_in seq all
+pub is_log : (seq key : ℕ) (e : LogEntry) (es all : List LogEntry) → key ≡ seq → (key ≡ e.head.seq) × (all ≡ e ∷ es) →
+    Log e ≡ next_in seq all
 is_log seq key e es all is first =
     let its = first.0 in
     let same : (e.head.seq == seq) ≡ true = grind (arith, nat_tests, is, its) in
     sym (ap (next_in seq) first.1 ∙ ap (λ (b : Bool). cond b (Log e) (Gap seq (e.head.seq - 1))) same)
 
-pub is_gap : (seq key : ℕ) (e : LogEntry) (es all : List LogEntry) → (key ≡ seq → ⊥) → (key ≡ e.head.seq) × (all ≡ e ∷ es) → Gap seq (key - 1) ≡ next_in seq all
+pub is_gap : (seq key : ℕ) (e : LogEntry) (es all : List LogEntry) → (key ≡ seq → ⊥) → (key ≡ e.head.seq) × (all ≡ e ∷ es) →
+    Gap seq (key - 1) ≡ next_in seq all
 is_gap seq key e es all other first =
     let its = first.0 in
     let differs : (e.head.seq == seq) ≡ false = grind (arith, nat_tests, other, its) in
-    ap (λ (n : ℕ). Gap seq (n - 1)) its ∙ sym (ap (next_in seq) first.1 ∙ ap (λ (b : Bool). cond b (Log e) (Gap seq (e.head.seq - 1))) differs)
+    ap (λ (n : ℕ). Gap seq (n - 1)) its ∙ sym (ap (next_in seq) first.1 ∙
+    ap (λ (b : Bool). cond b (Log e) (Gap seq (e.head.seq - 1))) differs)

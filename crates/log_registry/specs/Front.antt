@@ -28,4 +28,5 @@ IsFront (Some bytes) front count = take count front ≡ take 40 bytes
 
 -- the entry of a log of this length that begins with these bytes
 abbrev pub entry_of_front : List ℕ → ℕ → ℕ → Result LogEntry RegFault
-entry_of_front front size seq = if nat_lt size 40 then Err (faults.BadHeader heads.Short) else entry_unless_refused (header_fault seq front) (Ok (entry_with (header_in front) size))
+entry_of_front front size seq = if nat_lt size 40 then Err (faults.BadHeader heads.Short) else entry_unless_refused
+    (header_fault seq front) (Ok (entry_with (header_in front) size))

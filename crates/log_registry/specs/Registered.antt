@@ -31,7 +31,8 @@ answer_of_look seq (Some bytes) = entry_unless_refused (header_fault seq bytes) 
 -- the same for this database
 abbrev pub answer_of_inspect : ℕ → ℕ → Option (List ℕ) → Result LogEntry RegFault
 answer_of_inspect seq dbid None = Err refusals.NoLog
-answer_of_inspect seq dbid (Some bytes) = entry_unless_refused (header_fault seq bytes) (of_database dbid (header_in bytes) (length bytes))
+answer_of_inspect seq dbid (Some bytes) = entry_unless_refused (header_fault seq bytes)
+    (of_database dbid (header_in bytes) (length bytes))
 
 -- an entry is what a look at its log tells
 abbrev pub IsToldBy : (ℕ → Option (List ℕ)) → LogEntry → Type 0

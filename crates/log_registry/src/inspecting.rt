@@ -33,7 +33,8 @@ pub fn look<A: Archive>(archive: &mut A, seq: u32) -> Result<LogEntry, RegFault>
     ensures sequence { IfOk result (λ entry. entry.head.seq ≡ seq) }
     ensures long { IfOk result (λ entry. 40 ≤ entry.length) }
     ensures failed { result ≡ Err ArchiveFault → Rose (A.faults archive.old) (A.faults archive.new) }
-    ensures none_passed_over { result ≢ Err ArchiveFault → NoneCounted A.counts_failures_alone (A.faults archive.old) (A.faults archive.new) }
+    ensures none_passed_over { result ≢ Err ArchiveFault →
+        NoneCounted A.counts_failures_alone (A.faults archive.old) (A.faults archive.new) }
     ensures count { A.faults archive.old ≤ A.faults archive.new }
     ensures logs { A.logs archive.new ≡ A.logs archive.old }
 {
@@ -50,13 +51,15 @@ pub fn look<A: Archive>(archive: &mut A, seq: u32) -> Result<LogEntry, RegFault>
 /// Looks at a log of a database that is known already: the entry of this sequence and database, or the first reason why
 /// it is none. It takes no memory.
 pub fn inspect<A: Archive>(archive: &mut A, seq: u32, dbid: u32) -> Result<LogEntry, RegFault>
-    ensures exact { Told (A.logs archive.old) (λ logs. result ≢ Err ArchiveFault → result ≡ answer_of_inspect seq dbid (logs seq)) }
+    ensures exact { Told (A.logs archive.old) (λ logs. result ≢ Err ArchiveFault →
+        result ≡ answer_of_inspect seq dbid (logs seq)) }
     // Of an archive that does not tell its logs, too.
     ensures sequence { IfOk result (λ entry. entry.head.seq ≡ seq) }
     ensures long { IfOk result (λ entry. 40 ≤ entry.length) }
     ensures database { IfOk result (λ entry. entry.head.dbid ≡ dbid) }
     ensures failed { result ≡ Err ArchiveFault → Rose (A.faults archive.old) (A.faults archive.new) }
-    ensures none_passed_over { result ≢ Err ArchiveFault → NoneCounted A.counts_failures_alone (A.faults archive.old) (A.faults archive.new) }
+    ensures none_passed_over { result ≢ Err ArchiveFault →
+        NoneCounted A.counts_failures_alone (A.faults archive.old) (A.faults archive.new) }
     ensures count { A.faults archive.old ≤ A.faults archive.new }
     ensures logs { A.logs archive.new ≡ A.logs archive.old }
 {

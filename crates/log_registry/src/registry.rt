@@ -54,10 +54,12 @@ impl Registry {
         requires new { entry_of entry.head.seq self.old ≡ None }
         ensures with { OnOk result (self.new ≡ with_log entry self.old) }
         // It is there, and the others are as they were.
-        ensures found { OnOk result ((seq : ℕ) → entry_of seq self.new ≡ (if entry.head.seq == seq then Some entry else entry_of seq self.old)) }
+        ensures found { OnOk result ((seq : ℕ) → entry_of seq self.new ≡
+            (if entry.head.seq == seq then Some entry else entry_of seq self.old)) }
         ensures rising { IsRising self.new }
         // Of an archive's logs the list stays one, and its records are counted together.
-        ensures archived { (logs : ℕ → Option (List ℕ)) → AreToldBy logs self.old → IsToldBy logs entry → OnOk result (AreToldBy logs self.new) }
+        ensures archived { (logs : ℕ → Option (List ℕ)) → AreToldBy logs self.old → IsToldBy logs entry →
+            OnOk result (AreToldBy logs self.new) }
         ensures count { OnOk result (count_of self.new ≡ entry.head.count + count_of self.old) }
         ensures unchanged { OnErr result (self.new ≡ self.old) }
     {

@@ -24,18 +24,23 @@ Needs P LendLast = Unit {0}
 Needs P (Take piece) = P piece.rec (slots.Prepared piece)
 Needs P Draw = Unit {0}
 
-posted-if : (P : ℕ → Slot → Type 0) (next room : Bool) (raw : Raw) (w : Pending) → (next ≡ true → raw.rec ≡ next_number w) → P raw.rec (slots.Raw raw) → Holds P w → Holds P (after_post_if (posting_or next room raw) raw w)
+posted-if : (P : ℕ → Slot → Type 0) (next room : Bool) (raw : Raw) (w : Pending) → (next ≡ true → raw.rec ≡ next_number w) →
+    P raw.rec (slots.Raw raw) → Holds P w → Holds P (after_post_if (posting_or next room raw) raw w)
 posted-if P false room raw w n p h = h
 posted-if P true false raw w n p h = h
 posted-if P true true raw w n p h = each-snoc P w.first raw.rec w.slots (slots.Raw raw) (n refl) h p
 
-lent-any : (P : ℕ → Slot → Type 0) → ((n : ℕ) → P n slots.Lent) → (o : Option Raw) (w : Pending) → Holds P w → Holds P (after_lend o w)
+lent-any : (P : ℕ → Slot → Type 0) → ((n : ℕ) → P n slots.Lent) → (o : Option Raw) (w : Pending) → Holds P w →
+    Holds P (after_lend o w)
 lent-any P l None w h = h
-lent-any P l (Some raw) w h = each-set P w.first (w.first + (raw.rec - w.first)) w.slots (raw.rec - w.first) slots.Lent refl h (l (w.first + (raw.rec - w.first)))
+lent-any P l (Some raw) w h = each-set P w.first (w.first + (raw.rec - w.first)) w.slots (raw.rec - w.first) slots.Lent refl h
+    (l (w.first + (raw.rec - w.first)))
 
-prepared-if : (P : ℕ → Slot → Type 0) (b : Bool) (piece : Piece) (w : Pending) → (b ≡ true → w.first ≤ piece.rec) → P piece.rec (slots.Prepared piece) → Holds P w → Holds P (if b then with_slot piece.rec (slots.Prepared piece) w else w)
+prepared-if : (P : ℕ → Slot → Type 0) (b : Bool) (piece : Piece) (w : Pending) → (b ≡ true → w.first ≤ piece.rec) →
+    P piece.rec (slots.Prepared piece) → Holds P w → Holds P (if b then with_slot piece.rec (slots.Prepared piece) w else w)
 prepared-if P false piece w n p h = h
-prepared-if P true piece w n p h = each-set P w.first piece.rec w.slots (piece.rec - w.first) (slots.Prepared piece) (omega (arith, n refl)) h p
+prepared-if P true piece w n p h = each-set P w.first piece.rec w.slots (piece.rec - w.first) (slots.Prepared piece)
+    (omega (arith, n refl)) h p
 
 drawn-any : (P : ℕ → Slot → Type 0) (o : Option Piece) (w : Pending) → Holds P w → Holds P (without_drawn o w)
 drawn-any P None w h = h
@@ -48,8 +53,10 @@ begun-too : (a b : ℕ) (c : Bool) → (nat_le a b && c) ≡ true → a ≤ b
 begun-too a b c h = grind (arith, nat_tests)
 
 -- each call keeps the fact
-pub kept : (P : ℕ → Slot → Type 0) → ((n : ℕ) → P n slots.Lent) → (step : Step) (w : Pending) → Needs P step → Holds P w → Holds P (after_step step w)
-kept P l (Post raw) w p h = posted-if P (raw.rec == next_number w) (nat_lt (length w.slots) 64) raw w (next-too raw.rec (next_number w)) p h
+pub kept : (P : ℕ → Slot → Type 0) → ((n : ℕ) → P n slots.Lent) → (step : Step) (w : Pending) → Needs P step → Holds P w →
+    Holds P (after_step step w)
+kept P l (Post raw) w p h = posted-if P (raw.rec == next_number w) (nat_lt (length w.slots) 64) raw w
+    (next-too raw.rec (next_number w)) p h
 kept P l Lend w p h = lent-any P l (least_raw w) w h
 kept P l LendLast w p h = lent-any P l (greatest_raw w) w h
 kept P l (Take piece) w p h = prepared-if P (is_lent piece.rec w) piece w (begun-too w.first piece.rec _) p h
@@ -71,16 +78,19 @@ lent-first : (o : Option Raw) (w : Pending) → (after_lend o w).first ≡ w.fir
 lent-first None w = refl
 lent-first (Some raw) w = refl
 
-prepared-first : (b : Bool) (piece : Piece) (w : Pending) → (if b then with_slot piece.rec (slots.Prepared piece) w else w).first ≡ w.first
+prepared-first : (b : Bool) (piece : Piece) (w : Pending) →
+    (if b then with_slot piece.rec (slots.Prepared piece) w else w).first ≡ w.first
 prepared-first false piece w = refl
 prepared-first true piece w = refl
 
-draw-first : (P : ℕ → Slot → Type 0) (o : Option Piece) (w : Pending) (pieces : List Piece) → drawn_piece w ≡ o → Holds P w → EachPiece P (without_drawn o w).first pieces → EachPiece P w.first (option_to_list o ++ pieces)
+draw-first : (P : ℕ → Slot → Type 0) (o : Option Piece) (w : Pending) (pieces : List Piece) → drawn_piece w ≡ o → Holds P w →
+    EachPiece P (without_drawn o w).first pieces → EachPiece P w.first (option_to_list o ++ pieces)
 draw-first P None w pieces q h e = e
 draw-first P (Some piece) w pieces q h e = (each-first P w.first w.slots piece h q, e)
 
 -- the first of the window's numbers rises by what is drawn
-step-first : (P : ℕ → Slot → Type 0) (step : Step) (w : Pending) (pieces : List Piece) → Holds P w → EachPiece P (after_step step w).first pieces → EachPiece P w.first (pieces_of_step step w ++ pieces)
+step-first : (P : ℕ → Slot → Type 0) (step : Step) (w : Pending) (pieces : List Piece) → Holds P w →
+    EachPiece P (after_step step w).first pieces → EachPiece P w.first (pieces_of_step step w ++ pieces)
 step-first P (Post raw) w pieces h e = rw (sym (posted-first (raw.rec == next_number w) (nat_lt (length w.slots) 64) raw w)) e
 step-first P Lend w pieces h e = rw (sym (lent-first (least_raw w) w)) e
 step-first P LendLast w pieces h e = rw (sym (lent-first (greatest_raw w) w)) e
@@ -91,9 +101,11 @@ abbrev AllNeed : (ℕ → Slot → Type 0) → List Step → Type 0
 AllNeed P [] = Unit {0}
 AllNeed P (step ∷ steps) = Needs P step × AllNeed P steps
 
-all-drawn : (P : ℕ → Slot → Type 0) → ((n : ℕ) → P n slots.Lent) → (steps : List Step) (w : Pending) → AllNeed P steps → Holds P w → EachPiece P w.first (pieces_of_steps steps w)
+all-drawn : (P : ℕ → Slot → Type 0) → ((n : ℕ) → P n slots.Lent) → (steps : List Step) (w : Pending) → AllNeed P steps →
+    Holds P w → EachPiece P w.first (pieces_of_steps steps w)
 all-drawn P l [] w p h = tt
-all-drawn P l (step ∷ steps) w p h = step-first P step w (pieces_of_steps steps (after_step step w)) h (all-drawn P l steps (after_step step w) p.1 (kept P l step w p.0 h))
+all-drawn P l (step ∷ steps) w p h = step-first P step w (pieces_of_steps steps (after_step step w)) h
+    (all-drawn P l steps (after_step step w) p.1 (kept P l step w p.0 h))
 
 -- ---- how many are drawn
 
@@ -114,9 +126,15 @@ step-count Draw w = draw-count (drawn_piece w) w
 count-all : (steps : List Step) (w : Pending) → (after_steps steps w).first ≡ w.first + length (pieces_of_steps steps w)
 count-all [] w = none-more w.first
 count-all (step ∷ steps) w =
-    omega (arith, count-all steps (after_step step w), step-count step w, length-append (pieces_of_step step w) (pieces_of_steps steps (after_step step w)))
+    omega (
+      arith,
+      count-all steps (after_step step w),
+      step-count step w,
+      length-append (pieces_of_step step w) (pieces_of_steps steps (after_step step w)),
+    )
 
-pub all : (steps : List Step) (next : ℕ) → (after_steps steps (none_pending next)).first ≡ next + length (pieces_of_steps steps (none_pending next))
+pub all : (steps : List Step) (next : ℕ) → (after_steps steps (none_pending next)).first ≡ next +
+    length (pieces_of_steps steps (none_pending next))
 all steps next = count-all steps (none_pending next)
 
 -- ---- their numbers, and what they are
@@ -132,12 +150,15 @@ numbers-need : (steps : List Step) → AllNeed HasNumber steps
 numbers-need [] = tt
 numbers-need (step ∷ steps) = (number-needs step, numbers-need steps)
 
-in-order : (n : ℕ) (pieces : List Piece) → EachPiece HasNumber n pieces → map (λ piece. piece.rec) pieces ≡ count_up n (length pieces)
+in-order : (n : ℕ) (pieces : List Piece) → EachPiece HasNumber n pieces →
+    map (λ piece. piece.rec) pieces ≡ count_up n (length pieces)
 in-order n [] e = refl
 in-order n (piece ∷ pieces) e = let h = in-order (n + 1) pieces e.1 in rw e.0 (rw h refl)
 
-pub numbers : (steps : List Step) (next : ℕ) → map (λ piece. piece.rec) (pieces_of_steps steps (none_pending next)) ≡ count_up next (length (pieces_of_steps steps (none_pending next)))
-numbers steps next = in-order next (pieces_of_steps steps (none_pending next)) (all-drawn HasNumber (λ n. tt) steps (none_pending next) (numbers-need steps) tt)
+pub numbers : (steps : List Step) (next : ℕ) → map (λ piece. piece.rec) (pieces_of_steps steps (none_pending next)) ≡
+    count_up next (length (pieces_of_steps steps (none_pending next)))
+numbers steps next = in-order next (pieces_of_steps steps (none_pending next))
+    (all-drawn HasNumber (λ n. tt) steps (none_pending next) (numbers-need steps) tt)
 
 pub fit-needs : (raws : ℕ → Raw) (step : Step) → IsStepOf raws step → Needs (HoldsRawOf raws) step
 fit-needs raws (Post raw) f = f
@@ -150,9 +171,13 @@ all-fit-need : (raws : ℕ → Raw) (steps : List Step) → AreStepsOf raws step
 all-fit-need raws [] f = tt
 all-fit-need raws (step ∷ steps) f = (fit-needs raws step f.0, all-fit-need raws steps f.1)
 
-as-decoded : (raws : ℕ → Raw) (n : ℕ) (pieces : List Piece) → EachPiece (HoldsRawOf raws) n pieces → pieces ≡ map (λ n. piece_of (raws n)) (count_up n (length pieces))
+as-decoded : (raws : ℕ → Raw) (n : ℕ) (pieces : List Piece) → EachPiece (HoldsRawOf raws) n pieces →
+    pieces ≡ map (λ n. piece_of (raws n)) (count_up n (length pieces))
 as-decoded raws n [] e = refl
 as-decoded raws n (piece ∷ pieces) e = rw e.0 (ap (λ xs. piece_of (raws n) ∷ xs) (as-decoded raws (n + 1) pieces e.1))
 
-pub decoded : (raws : ℕ → Raw) (steps : List Step) (next : ℕ) → AreStepsOf raws steps → pieces_of_steps steps (none_pending next) ≡ map (λ n. piece_of (raws n)) (count_up next (length (pieces_of_steps steps (none_pending next))))
-decoded raws steps next f = as-decoded raws next (pieces_of_steps steps (none_pending next)) (all-drawn (HoldsRawOf raws) (λ n. tt) steps (none_pending next) (all-fit-need raws steps f) tt)
+pub decoded : (raws : ℕ → Raw) (steps : List Step) (next : ℕ) → AreStepsOf raws steps →
+    pieces_of_steps steps (none_pending next) ≡ map (λ n. piece_of (raws n))
+    (count_up next (length (pieces_of_steps steps (none_pending next))))
+decoded raws steps next f = as-decoded raws next (pieces_of_steps steps (none_pending next))
+    (all-drawn (HoldsRawOf raws) (λ n. tt) steps (none_pending next) (all-fit-need raws steps f) tt)

@@ -15,7 +15,8 @@ use Rattle.preparers.proofs.Slots.{each-snoc, each-set, each-raw, set-same}
 
 -- ---- lending
 
-lent-of : (o : Option Slot) (xs : List Slot) (k : ℕ) (raw : Raw) → raw_of o ≡ Some raw → lent_from o xs k ≡ slice_set xs k slots.Lent
+lent-of : (o : Option Slot) (xs : List Slot) (k : ℕ) (raw : Raw) → raw_of o ≡ Some raw →
+    lent_from o xs k ≡ slice_set xs k slots.Lent
 lent-of None xs k raw g = cc
 lent-of (Some (slots.Raw r)) xs k raw g = refl
 lent-of (Some slots.Lent) xs k raw g = cc
@@ -26,7 +27,8 @@ length-set-slot [] k x = refl
 length-set-slot (y ∷ ys) zero x = refl
 length-set-slot (y ∷ ys) (suc k) x = omega (arith, length-set-slot ys k x)
 
-window-set : (w : Pending) (m k : ℕ) (x : Slot) → m ≡ w.first + k → IsWindow w → HasNumber m x → IsWhole m x → IsWindow (pending w.first (slice_set w.slots k x))
+window-set : (w : Pending) (m k : ℕ) (x : Slot) → m ≡ w.first + k → IsWindow w → HasNumber m x → IsWhole m x →
+    IsWindow (pending w.first (slice_set w.slots k x))
 window-set w m k x q i n h =
     record {
       few = rw (length-set-slot w.slots k x) i.few;
@@ -36,7 +38,8 @@ window-set w m k x q i n h =
     }
 
 -- the slots once the cut record at this index is given away are those in which its number is lent
-pub lends : (w : Pending) (k : ℕ) (raw : Raw) → IsWindow w → raw_at_index w.slots k ≡ Some raw → pending w.first (lent_at w.slots k) ≡ after_lend (Some raw) w
+pub lends : (w : Pending) (k : ℕ) (raw : Raw) → IsWindow w → raw_at_index w.slots k ≡ Some raw →
+    pending w.first (lent_at w.slots k) ≡ after_lend (Some raw) w
 lends w k raw i g =
     let n : raw.rec - w.first ≡ k = omega (arith, each-raw HasNumber w.first (w.first + k) w.slots k raw refl i.numbered g) in
     rw n (rw (lent-of (slice_get w.slots k) w.slots k raw g) refl)
@@ -45,39 +48,47 @@ some-of : (o : Option Raw) → IsTrue (is_some o) → (raw : Raw) × (o ≡ Some
 some-of None s = absurd cc
 some-of (Some raw) s = (raw, refl)
 
-pub window-lent : (w : Pending) (k : ℕ) → IsTrue (is_some (raw_at_index w.slots k)) → IsWindow w → IsWindow (pending w.first (lent_at w.slots k))
+pub window-lent : (w : Pending) (k : ℕ) → IsTrue (is_some (raw_at_index w.slots k)) → IsWindow w →
+    IsWindow (pending w.first (lent_at w.slots k))
 window-lent w k s i =
     let p = some-of (raw_at_index w.slots k) s in
     rw (lent-of (slice_get w.slots k) w.slots k p.0 p.1) (window-set w (w.first + k) k slots.Lent refl i tt tt)
 
-pub is-lent : (w : Pending) (k : ℕ) → IsTrue (is_some (raw_at_index w.slots k)) → IsWindow w → pending w.first (lent_at w.slots k) ≡ after_lend (raw_at_index w.slots k) w
+pub is-lent : (w : Pending) (k : ℕ) → IsTrue (is_some (raw_at_index w.slots k)) → IsWindow w →
+    pending w.first (lent_at w.slots k) ≡ after_lend (raw_at_index w.slots k) w
 is-lent w k s i = let p = some-of (raw_at_index w.slots k) s in rw p.1 (lends w k p.0 i p.1)
 
-pub is-least : (w : Pending) (k : ℕ) → IsTrue (is_some (raw_at_index w.slots k)) → raws_of (take k w.slots) ≡ [] → raw_at_index w.slots k ≡ least_raw w
+pub is-least : (w : Pending) (k : ℕ) → IsTrue (is_some (raw_at_index w.slots k)) → raws_of (take k w.slots) ≡ [] →
+    raw_at_index w.slots k ≡ least_raw w
 is-least w k s h = let p = some-of (raw_at_index w.slots k) s in p.1 ∙ sym (least-here w.slots k p.0 p.1 h)
 
-pub is-greatest : (w : Pending) (k : ℕ) → IsTrue (is_some (raw_at_index w.slots k)) → raws_of (drop (k + 1) w.slots) ≡ [] → raw_at_index w.slots k ≡ greatest_raw w
+pub is-greatest : (w : Pending) (k : ℕ) → IsTrue (is_some (raw_at_index w.slots k)) → raws_of (drop (k + 1) w.slots) ≡ [] →
+    raw_at_index w.slots k ≡ greatest_raw w
 is-greatest w k s h =
     let p = some-of (raw_at_index w.slots k) s in
     let e : k + 1 ≡ suc k = omega arith in
     p.1 ∙ sym (greatest-here w.slots k p.0 p.1 (rw e at h))
 
-pub least-is-least : (w : Pending) (o : Option Raw) → IsWindow w → o ≡ least_raw w → IfSome o (λ raw. All (λ other. raw.rec ≤ other.rec) (raws_of w.slots))
+pub least-is-least : (w : Pending) (o : Option Raw) → IsWindow w → o ≡ least_raw w →
+    IfSome o (λ raw. All (λ other. raw.rec ≤ other.rec) (raws_of w.slots))
 least-is-least w None i g = tt
 least-is-least w (Some raw) i g = least-of w.first w.slots raw i.numbered (sym g)
 
-pub greatest-is-greatest : (w : Pending) (o : Option Raw) → IsWindow w → o ≡ greatest_raw w → IfSome o (λ raw. All (λ other. other.rec ≤ raw.rec) (raws_of w.slots))
+pub greatest-is-greatest : (w : Pending) (o : Option Raw) → IsWindow w → o ≡ greatest_raw w →
+    IfSome o (λ raw. All (λ other. other.rec ≤ raw.rec) (raws_of w.slots))
 greatest-is-greatest w None i g = tt
 greatest-is-greatest w (Some raw) i g = greatest-of w.first w.slots raw i.numbered (sym g)
 
 -- the bytes of a record that is lent are one record
-pub is-whole : (w : Pending) (k : ℕ) (o : Option Raw) → IsWindow w → raw_at_index w.slots k ≡ o → IfSome o (λ raw. first_record raw.bytes ≡ Ok (raw.bytes, []))
+pub is-whole : (w : Pending) (k : ℕ) (o : Option Raw) → IsWindow w → raw_at_index w.slots k ≡ o →
+    IfSome o (λ raw. first_record raw.bytes ≡ Ok (raw.bytes, []))
 is-whole w k None i g = tt
 is-whole w k (Some raw) i g = each-raw IsWhole w.first (w.first + k) w.slots k raw refl i.whole g
 
 -- ---- taking a piece back
 
-prepared-of : (o : Option Slot) (xs : List Slot) (k : ℕ) (piece : Piece) → slice_get xs k ≡ o → prepared_from o piece xs k ≡ (if is_lent_of o then slice_set xs k (slots.Prepared piece) else xs)
+prepared-of : (o : Option Slot) (xs : List Slot) (k : ℕ) (piece : Piece) → slice_get xs k ≡ o →
+    prepared_from o piece xs k ≡ (if is_lent_of o then slice_set xs k (slots.Prepared piece) else xs)
 prepared-of None xs k piece g = refl
 prepared-of (Some (slots.Raw r)) xs k piece g = set-same xs k (slots.Raw r) g
 prepared-of (Some slots.Lent) xs k piece g = refl
@@ -98,20 +109,25 @@ too-low w piece h = rw (not-begun w.first piece.rec h) refl
 pub stays : (w : Pending) (piece : Piece) → piece.rec < w.first → after_prepared piece w ≡ w
 stays w piece h = rw (too-low w piece h) refl
 
-prepared-if : (b : Bool) (w : Pending) (piece : Piece) → pending w.first (if b then slice_set w.slots (piece.rec - w.first) (slots.Prepared piece) else w.slots) ≡ (if b then with_slot piece.rec (slots.Prepared piece) w else w)
+prepared-if : (b : Bool) (w : Pending) (piece : Piece) →
+    pending w.first (if b then slice_set w.slots (piece.rec - w.first) (slots.Prepared piece) else w.slots) ≡
+    (if b then with_slot piece.rec (slots.Prepared piece) w else w)
 prepared-if true w piece = refl
 prepared-if false w piece = refl
 
-pub put-back : (w : Pending) (piece : Piece) → w.first ≤ piece.rec → pending w.first (prepared_at piece w.slots (piece.rec - w.first)) ≡ after_prepared piece w
+pub put-back : (w : Pending) (piece : Piece) → w.first ≤ piece.rec →
+    pending w.first (prepared_at piece w.slots (piece.rec - w.first)) ≡ after_prepared piece w
 put-back w piece h =
     rw (prepared-of (slice_get w.slots (piece.rec - w.first)) w.slots (piece.rec - w.first) piece refl)
     (rw (begun w.first piece.rec h) (prepared-if (is_lent_at w.slots (piece.rec - w.first)) w piece))
 
-window-if : (b : Bool) (w : Pending) (piece : Piece) → w.first ≤ piece.rec → IsWindow w → IsWindow (if b then with_slot piece.rec (slots.Prepared piece) w else w)
+window-if : (b : Bool) (w : Pending) (piece : Piece) → w.first ≤ piece.rec → IsWindow w →
+    IsWindow (if b then with_slot piece.rec (slots.Prepared piece) w else w)
 window-if false w piece h i = i
 window-if true w piece h i = window-set w piece.rec (piece.rec - w.first) (slots.Prepared piece) (omega (arith, h)) i refl tt
 
-pub window-prepared : (w : Pending) (piece : Piece) → w.first ≤ piece.rec → IsWindow w → IsWindow (pending w.first (prepared_at piece w.slots (piece.rec - w.first)))
+pub window-prepared : (w : Pending) (piece : Piece) → w.first ≤ piece.rec → IsWindow w →
+    IsWindow (pending w.first (prepared_at piece w.slots (piece.rec - w.first)))
 window-prepared w piece h i = rw (put-back w piece h) (window-if (is_lent piece.rec w) w piece h i)
 
 -- ---- posting and drawing
@@ -123,7 +139,9 @@ has-room a b h g = grind (arith, nat_tests)
 pub kept-whole : (n : ℕ) (xs : List Slot) → length xs ≤ n → keep_last n xs ≡ xs
 kept-whole n xs h = let e : length xs - n ≡ 0 = omega (arith, h) in rw e refl
 
-pub window-posted : (first : ℕ) (xs : List Slot) (raw : Raw) → IsWindow (pending first xs) → raw.rec ≡ first + length xs → raw.rec < 2 ^ 64 → length xs < 64 → first_record raw.bytes ≡ Ok (raw.bytes, []) → IsWindow (pending first (xs ++ slots.Raw raw ∷ []))
+pub window-posted : (first : ℕ) (xs : List Slot) (raw : Raw) → IsWindow (pending first xs) → raw.rec ≡ first + length xs →
+    raw.rec < 2 ^ 64 → length xs < 64 → first_record raw.bytes ≡ Ok (raw.bytes, []) →
+    IsWindow (pending first (xs ++ slots.Raw raw ∷ []))
 window-posted first xs raw i q r l h =
     let e : length (xs ++ slots.Raw raw ∷ []) ≡ length xs + 1 = length-append xs (slots.Raw raw ∷ []) in
     record {
@@ -133,6 +151,12 @@ window-posted first xs raw i q r l h =
       fits = rw e (omega (arith, q, r));
     }
 
-pub window-drawn : (first : ℕ) (xs : List Slot) (piece : Piece) → IsWindow (pending first xs) → first_prepared xs ≡ Some piece → IsWindow (pending (first + 1) (drop 1 xs))
+pub window-drawn : (first : ℕ) (xs : List Slot) (piece : Piece) → IsWindow (pending first xs) → first_prepared xs ≡ Some piece →
+    IsWindow (pending (first + 1) (drop 1 xs))
 window-drawn first [] piece i g = absurd cc
-window-drawn first (x ∷ xs) piece i g = record { few = omega (arith, i.few); numbered = i.numbered.1; whole = i.whole.1; fits = omega (arith, i.fits) }
+window-drawn first (x ∷ xs) piece i g = record {
+  few = omega (arith, i.few);
+  numbered = i.numbered.1;
+  whole = i.whole.1;
+  fits = omega (arith, i.fits);
+}

@@ -24,7 +24,8 @@ fn is_raw_at(slots: &HeapCircularBuffer<Slot>, at: usize) -> bool
 
 /// Where the first cut record stands.
 pub(crate) fn least_at(slots: &HeapCircularBuffer<Slot>) -> Option<usize>
-    ensures found { IfSome result (λ at. IsTrue (is_some (raw_at_index slots.now.items at)) × (raws_of (take at slots.now.items) ≡ [])) }
+    ensures found { IfSome result (λ at. IsTrue (is_some (raw_at_index slots.now.items at)) ×
+        (raws_of (take at slots.now.items) ≡ [])) }
     ensures none { IfNone result (raws_of slots.now.items ≡ []) }
 {
     for at in 0..slots.len() {
@@ -37,7 +38,8 @@ pub(crate) fn least_at(slots: &HeapCircularBuffer<Slot>) -> Option<usize>
 
 /// Where the last cut record stands.
 pub(crate) fn greatest_at(slots: &HeapCircularBuffer<Slot>) -> Option<usize>
-    ensures found { IfSome result (λ at. IsTrue (is_some (raw_at_index slots.now.items at)) × (raws_of (drop (at + 1) slots.now.items) ≡ [])) }
+    ensures found { IfSome result (λ at. IsTrue (is_some (raw_at_index slots.now.items at)) ×
+        (raws_of (drop (at + 1) slots.now.items) ≡ [])) }
     ensures none { IfNone result (raws_of slots.now.items ≡ []) }
 {
     let mut end = slots.len();

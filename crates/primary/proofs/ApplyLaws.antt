@@ -24,19 +24,25 @@ shown_whole whole ts by is = let none : Tables = [] in ap (λ b. cond b (assembl
 pub none_wait : (whole : Bool) (by after : RowsById) → whole ≡ true → waiting_until whole after ≡ waiting_until whole by
 none_wait whole by after is = ap (λ b. waiting_until b after) is ∙ sym (ap (λ b. waiting_until b by) is)
 
-pub tells : (r : Result Tables Missed) (fault : EffectsFault) (pos : Pos) (table : ℕ) (miss : Miss) → fault ≡ faults.Missed pos table miss → TellsMiss r fault → r ≡ Err (record { pos = pos; table = table; miss = miss })
+pub tells : (r : Result Tables Missed) (fault : EffectsFault) (pos : Pos) (table : ℕ) (miss : Miss) →
+    fault ≡ faults.Missed pos table miss → TellsMiss r fault → r ≡ Err (record { pos = pos; table = table; miss = miss })
 tells r fault pos table miss is told = let P : EffectsFault → Type 0 = λ f. TellsMiss r f in subst P is told
 
-pub applies_next : (skips : List Skip) (scn : ℕ) (ps : List Placed) (a : FoldState) (ts : List TableRow) (by : RowsById) (r : Result Tables Missed) → a.tables ≡ assembled ts by → nat_lt a.made a.n ≡ false →
-    effects (assembled ts by) (kept_of skips ts a.n ps) ≡ r → progress_after_commit skips scn ps a ≡ progress_after_effects scn r a
+pub applies_next : (skips : List Skip) (scn : ℕ) (ps : List Placed) (a : FoldState) (ts : List TableRow) (by : RowsById)
+    (r : Result Tables Missed) → a.tables ≡ assembled ts by → nat_lt a.made a.n ≡ false →
+    effects (assembled ts by) (kept_of skips ts a.n ps) ≡ r →
+    progress_after_commit skips scn ps a ≡ progress_after_effects scn r a
 applies_next skips scn ps a ts by r tables next is =
-    ap (λ b. cond b (Going (record a { made = a.made + 1 })) (progress_after_effects scn (effects a.tables (kept_of skips (definitions_of a.tables) a.n ps)) a)) next
+    ap (λ b. cond b (Going (record a { made = a.made + 1 }))
+    (progress_after_effects scn (effects a.tables (kept_of skips (definitions_of a.tables) a.n ps)) a)) next
     ∙ ap (λ us. progress_after_effects scn (effects us (kept_of skips (definitions_of us) a.n ps)) a) tables
     ∙ ap (λ ds. progress_after_effects scn (effects (assembled ts by) (kept_of skips ds a.n ps)) a) (definitions_assembled ts by)
     ∙ ap (λ s. progress_after_effects scn s a) is
 
-pub misses : (skips : List Skip) (scn : ℕ) (ps : List Placed) (a : FoldState) (ts : List TableRow) (by : RowsById) (m : Missed) → a.tables ≡ assembled ts by → nat_lt a.made a.n ≡ false →
-    effects (assembled ts by) (kept_of skips ts a.n ps) ≡ Err m → Ended (held_at a (Mismatch scn m.pos m.table m.miss)) ≡ progress_after_commit skips scn ps a
+pub misses : (skips : List Skip) (scn : ℕ) (ps : List Placed) (a : FoldState) (ts : List TableRow) (by : RowsById) (m : Missed) →
+    a.tables ≡ assembled ts by → nat_lt a.made a.n ≡ false →
+    effects (assembled ts by) (kept_of skips ts a.n ps) ≡ Err m →
+    Ended (held_at a (Mismatch scn m.pos m.table m.miss)) ≡ progress_after_commit skips scn ps a
 misses skips scn ps a ts by m tables next is = sym (applies_next skips scn ps a ts by (Err m) tables next is)
 
 not_false : (b : Bool) → not b ≡ false → b ≡ true
@@ -47,17 +53,23 @@ not_true : (b : Bool) → not b ≡ true → b ≡ false
 not_true true e = absurd (cc)
 not_true false e = refl
 
-pub over_limit : (skips : List Skip) (scn : ℕ) (ps : List Placed) (a : FoldState) (ts : List TableRow) (by : RowsById) (ws : List Write) (left : Tables) → a.tables ≡ assembled ts by → nat_lt a.made a.n ≡ false →
-    effects (assembled ts by) (kept_of skips ts a.n ps) ≡ Ok (overlaid (assembled ts by) ws) → not (nat_lt live_row_limit (row_count (overlaid (assembled ts by) ws))) ≡ false → left ≡ assembled ts by →
+pub over_limit : (skips : List Skip) (scn : ℕ) (ps : List Placed) (a : FoldState) (ts : List TableRow) (by : RowsById)
+    (ws : List Write) (left : Tables) → a.tables ≡ assembled ts by → nat_lt a.made a.n ≡ false →
+    effects (assembled ts by) (kept_of skips ts a.n ps) ≡ Ok (overlaid (assembled ts by) ws) →
+    not (nat_lt live_row_limit (row_count (overlaid (assembled ts by) ws))) ≡ false → left ≡ assembled ts by →
     Ended (held_at (record a { tables = left }) (RowLimit scn)) ≡ progress_after_commit skips scn ps a
 over_limit skips scn ps a ts by ws left tables next is many same =
     ap (λ us. Ended (held_at (record a { tables = us }) (RowLimit scn))) (same ∙ sym tables)
     ∙ ap (λ b. progress_or_end (cond b (Some (RowLimit scn)) None) scn (overlaid (assembled ts by) ws) a) (sym (not_false _ many))
     ∙ sym (applies_next skips scn ps a ts by (Ok (overlaid (assembled ts by) ws)) tables next is)
 
-pub goes_on : (skips : List Skip) (scn : ℕ) (ps : List Placed) (a : FoldState) (ts : List TableRow) (by : RowsById) (ws : List Write) (left : Tables) (waiting : RowsById) (made n : ℕ) → a.tables ≡ assembled ts by → nat_lt a.made a.n ≡ false →
-    effects (assembled ts by) (kept_of skips ts a.n ps) ≡ Ok (overlaid (assembled ts by) ws) → not (nat_lt live_row_limit (row_count (overlaid (assembled ts by) ws))) ≡ true → left ≡ overlaid (assembled ts by) ws →
-    made ≡ a.made + 1 → n ≡ a.n + 1 → waiting ≡ a.waiting → Going (record a { made = made; n = n; scn = scn; waiting = waiting; tables = left }) ≡ progress_after_commit skips scn ps a
+pub goes_on : (skips : List Skip) (scn : ℕ) (ps : List Placed) (a : FoldState) (ts : List TableRow) (by : RowsById)
+    (ws : List Write) (left : Tables) (waiting : RowsById) (made n : ℕ) → a.tables ≡ assembled ts by → nat_lt a.made a.n ≡ false →
+    effects (assembled ts by) (kept_of skips ts a.n ps) ≡ Ok (overlaid (assembled ts by) ws) →
+    not (nat_lt live_row_limit (row_count (overlaid (assembled ts by) ws))) ≡ true → left ≡ overlaid (assembled ts by) ws →
+    made ≡ a.made + 1 → n ≡ a.n + 1 → waiting ≡ a.waiting →
+    Going (record a { made = made; n = n; scn = scn; waiting = waiting; tables = left }) ≡
+    progress_after_commit skips scn ps a
 goes_on skips scn ps a ts by ws left waiting made n tables next is few same one more waits =
     (λ i. Going (record a { made = one i; n = more i; scn = scn; waiting = waits i; tables = same i }))
     ∙ ap (λ b. progress_or_end (cond b (Some (RowLimit scn)) None) scn (overlaid (assembled ts by) ws) a) (sym (not_true _ few))

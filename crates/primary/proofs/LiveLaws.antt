@@ -20,7 +20,8 @@ use Rattle.primary.proofs.MapLemmas.{find_is_lookup, put_is_insert, sorted_is, i
 -- ---- transaction ids
 
 pub xid_total : IsTotalOrder xid_cmp
-xid_total = then_total (on_total (λ x. x.usn) nat_cmp_total) (then_total (on_total (λ x. x.slot) nat_cmp_total) (on_total (λ x. x.sqn) nat_cmp_total))
+xid_total = then_total (on_total (λ x. x.usn) nat_cmp_total)
+    (then_total (on_total (λ x. x.slot) nat_cmp_total) (on_total (λ x. x.sqn) nat_cmp_total))
 
 tied_then : (o p : Ordering) → is_eq (ordering_then o p) ≡ (is_eq o && is_eq p)
 tied_then Less p = refl
@@ -64,7 +65,8 @@ same_self x = λ i. same_number x.usn i && same_number x.slot i && same_number x
 pub find_changes : (y : Xid) (live : OpenChanges) → changes_of y live ≡ entries.find xid_cmp y live
 find_changes y live = find_is_lookup xid_cmp y live
 
-pub opened_changes : (x y : Xid) (live : OpenChanges) → changes_of y (with_opened x live) ≡ cond (same_xid y x) (Some []) (changes_of y live)
+pub opened_changes : (x y : Xid) (live : OpenChanges) → changes_of y (with_opened x live) ≡
+    cond (same_xid y x) (Some []) (changes_of y live)
 opened_changes x y live =
     ap (changes_of y) (put_is_insert xid_cmp x [] live)
     ∙ find_changes y (entries.put xid_cmp x [] live)
@@ -75,16 +77,20 @@ opened_changes x y live =
 one_key : (x a b : Xid) → is_at (xid_cmp x) a ≡ true → is_at (xid_cmp x) b ≡ eq_by_cmp xid_cmp a b
 one_key x a b e = (eq_by_cmp_equiv xid_total).congr x a b e
 
-pub closed_changes : (x y : Xid) (live : OpenChanges) → IsStrictlySortedBy xid_cmp (keys_of live) → changes_of y (without_closed x live) ≡ cond (same_xid x y) None (changes_of y live)
+pub closed_changes : (x y : Xid) (live : OpenChanges) → IsStrictlySortedBy xid_cmp (keys_of live) →
+    changes_of y (without_closed x live) ≡ cond (same_xid x y) None (changes_of y live)
 closed_changes x y live h =
-    lookup-remove_entry (eq_by_cmp_equiv xid_total) (is_at (xid_cmp x)) (one_key x) y live (IsDistinct-from_sorted xid_cmp (keys_of live) h)
+    lookup-remove_entry (eq_by_cmp_equiv xid_total) (is_at (xid_cmp x)) (one_key x) y live
+    (IsDistinct-from_sorted xid_cmp (keys_of live) h)
     ∙ ap (λ b. cond b None (changes_of y live)) (tied_same x y)
 
 pub rechanged_changes : (x y : Xid) (f : List Placed → List Placed) (live : OpenChanges) →
-    changes_of y (with_changes x f live (changes_of x live)) ≡ cond (same_xid x y) (option_map f (changes_of x live)) (changes_of y live)
+    changes_of y (with_changes x f live (changes_of x live)) ≡
+    cond (same_xid x y) (option_map f (changes_of x live)) (changes_of y live)
 rechanged_changes x y f live = by (changes_of x live) refl
   where
-    by : (o : Option (List Placed)) → changes_of x live ≡ o → changes_of y (with_changes x f live o) ≡ cond (same_xid x y) (option_map f o) (changes_of y live)
+    by : (o : Option (List Placed)) → changes_of x live ≡ o →
+        changes_of y (with_changes x f live o) ≡ cond (same_xid x y) (option_map f o) (changes_of y live)
     by (Some ps) e =
         lookup-set_value (eq_by_cmp_equiv xid_total) (is_at (xid_cmp x)) (one_key x) y (f ps) live (ap is_some e)
         ∙ ap (λ b. cond b (Some (f ps)) (changes_of y live)) (tied_same x y)
@@ -106,14 +112,18 @@ nothing_rises = tt
 pub opened_rises : (x : Xid) (live : OpenChanges) → ids_rise live → ids_rise (with_opened x live)
 opened_rises x live h =
     subst ids_rise (sym (put_is_insert xid_cmp x [] live))
-    (is_sorted_by xid_cmp (entries.put xid_cmp x [] live) (is_true _ (entries.is_sorted-put xid_cmp xid_total x [] live (holds _ (sorted_is xid_cmp live h)))))
+    (is_sorted_by xid_cmp (entries.put xid_cmp x [] live)
+    (is_true _ (entries.is_sorted-put xid_cmp xid_total x [] live (holds _ (sorted_is xid_cmp live h)))))
 
 pub closed_rises : (x : Xid) (live : OpenChanges) → ids_rise live → ids_rise (without_closed x live)
 closed_rises x live h =
     subst ids_rise (sym (where_is_remove xid_cmp xid_total x live h))
     (is_sorted_by xid_cmp (entries.where_key xid_cmp (λ k. not (eq_by_cmp xid_cmp x k)) live)
-    (is_true _ (entries.is_sorted-where_key xid_cmp (λ k. not (eq_by_cmp xid_cmp x k)) live (holds _ (sorted_is xid_cmp live h)))))
+    (is_true _ (entries.is_sorted-where_key xid_cmp (λ k. not (eq_by_cmp xid_cmp x k)) live
+    (holds _ (sorted_is xid_cmp live h)))))
 
-pub rechanged_rises : (x : Xid) (f : List Placed → List Placed) (live : OpenChanges) (o : Option (List Placed)) → ids_rise live → ids_rise (with_changes x f live o)
+pub rechanged_rises : (x : Xid) (f : List Placed → List Placed) (live : OpenChanges) (o : Option (List Placed)) → ids_rise live →
+    ids_rise (with_changes x f live o)
 rechanged_rises x f live None h = h
-rechanged_rises x f live (Some ps) h = subst (λ (ks : List Xid). IsStrictlySortedBy xid_cmp ks) (sym (keys-set_value (is_at (xid_cmp x)) live (f ps))) h
+rechanged_rises x f live (Some ps) h = subst (λ (ks : List Xid). IsStrictlySortedBy xid_cmp ks)
+    (sym (keys-set_value (is_at (xid_cmp x)) live (f ps))) h

@@ -23,7 +23,8 @@ with_row by id key row = put_beside by id key row (table_in by id)
 
 abbrev pub take_from : RowsById → ℕ → List Value → Option Rows → RowsById
 take_from by id key None = by
-take_from by id key (Some rows) = set_value (is_at (nat_cmp id)) by (entries.where_key row_cmp (λ k. not (eq_by_cmp row_cmp key k)) rows)
+take_from by id key (Some rows) = set_value (is_at (nat_cmp id)) by
+    (entries.where_key row_cmp (λ k. not (eq_by_cmp row_cmp key k)) rows)
 
 -- without the row of this key in this table
 abbrev pub without_row : RowsById → ℕ → List Value → RowsById

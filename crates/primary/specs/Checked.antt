@@ -23,7 +23,8 @@ value_leads index key (Some q) = is_lead key (lead_of index q)
 -- each unique value of the row leads to it; its unique keys count from this number
 abbrev pub leads_from : UniqueIndex → ℕ → ℕ → List (List ℕ) → List Value → List Value → Bool
 leads_from index table number [] key row = true
-leads_from index table number (columns ∷ more) key row = value_leads index key (unique_at table number columns row) && leads_from index table (number + 1) more key row
+leads_from index table number (columns ∷ more) key row =
+    value_leads index key (unique_at table number columns row) && leads_from index table (number + 1) more key row
 
 -- the row fits the table, stands under its own primary key, and has its unique values alone
 abbrev pub row_holds : TableRow → UniqueIndex → List Value × List Value → Bool

@@ -146,7 +146,8 @@ progress_with_commit skips scn (Some ps) a = progress_after_commit skips scn ps 
 
 -- after one more vector, at this position in a record of this SCN
 abbrev pub progress_with_vector : List Skip → ℕ → Pos → Vector → FoldState → Progress
-progress_with_vector skips scn at v a = progress_with_commit skips scn (commit_of v a.live) (record a { live = live_after at v a.live })
+progress_with_vector skips scn at v a = progress_with_commit skips scn (commit_of v a.live)
+    (record a { live = live_after at v a.live })
 
 abbrev pub progress_after_vector : List Skip → ℕ → Pos → Vector → Progress → Progress
 progress_after_vector skips scn at v (Going a) = progress_with_vector skips scn at v a
@@ -155,7 +156,8 @@ progress_after_vector skips scn at v (Ended f) = Ended f
 -- after these vectors, the first of which has this number in record rec
 abbrev pub progress_after_vectors : List Skip → ℕ → ℕ → ℕ → List Vector → Progress → Progress
 progress_after_vectors skips scn rec vec [] p = p
-progress_after_vectors skips scn rec vec (v ∷ vs) p = progress_after_vectors skips scn rec (vec + 1) vs (progress_after_vector skips scn (record { rec = rec; vec = vec }) v p)
+progress_after_vectors skips scn rec vec (v ∷ vs) p = progress_after_vectors skips scn rec (vec + 1) vs
+    (progress_after_vector skips scn (record { rec = rec; vec = vec }) v p)
 
 -- the tables are known with the end of the dictionary, and have the rows then that waited for it
 abbrev pub tables_then : Bool → RowsById → Tables → Standing → Tables
@@ -172,7 +174,8 @@ state_at_record e a = record a {
 
 -- the rows that wait are sound tables, where the dictionary ends with this record
 abbrev pub RowsAreSound : Entry → Progress → Type 0
-RowsAreSound e (Going a) = record_fault a.standing e ≡ None → a.standing.dictionary.finished ≡ false → AreSound (tables_then false a.waiting a.tables (record_after e a.standing))
+RowsAreSound e (Going a) = record_fault a.standing e ≡ None → a.standing.dictionary.finished ≡ false →
+    AreSound (tables_then false a.waiting a.tables (record_after e a.standing))
 RowsAreSound e (Ended f) = ⊤
 
 -- no rows wait
@@ -182,8 +185,10 @@ NoneWait (Ended f) = ⊤
 
 -- after a record that is admitted, or is bad; the dictionary that a bad one leaves names its table
 abbrev pub progress_unless_bad : Option LawFault → List Skip → Entry → FoldState → Progress
-progress_unless_bad (Some fault) skips e a = Ended (named_by (dictionary_left a.standing e).tables (held_at a (Stopped (Malformed (a.standing.rec + 1) (causes.Law fault)))))
-progress_unless_bad None skips (h, r) a = progress_after_vectors skips r.scn (a.standing.rec + 1) 1 r.vectors (Going (state_at_record (h, r) a))
+progress_unless_bad (Some fault) skips e a = Ended (named_by (dictionary_left a.standing e).tables
+    (held_at a (Stopped (Malformed (a.standing.rec + 1) (causes.Law fault)))))
+progress_unless_bad None skips (h, r) a = progress_after_vectors skips r.scn (a.standing.rec + 1) 1 r.vectors
+    (Going (state_at_record (h, r) a))
 
 -- after one more record
 abbrev pub progress_after_record : List Skip → Entry → Progress → Progress

@@ -48,7 +48,15 @@ tables_of r = tables_shown r.whole r.law.dictionary.tables r.tables
 
 -- what it is seen as
 abbrev pub fold_state_of : Running → FoldState
-fold_state_of r = record { standing = r.law; live = r.live; made = r.made; n = r.n; scn = r.scn; waiting = waiting_until r.whole r.tables; tables = tables_of r }
+fold_state_of r = record {
+  standing = r.law;
+  live = r.live;
+  made = r.made;
+  n = r.n;
+  scn = r.scn;
+  waiting = waiting_until r.whole r.tables;
+  tables = tables_of r;
+}
 
 -- and where it ends, if it does
 abbrev pub progress_of : Option Verdict → Running → Progress

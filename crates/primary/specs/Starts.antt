@@ -15,18 +15,31 @@ use Rattle.primary.specs.Progress.{tables_shown, waiting_until, Progress, FoldSt
 
 -- what a plain fold says
 abbrev pub folded_of : Plainly → Folded
-folded_of f = record { n = f.n; scn = f.scn; tables = tables_shown f.whole f.dict.tables f.tables; names = f.dict.tables; verdict = f.end }
+folded_of f = record {
+  n = f.n;
+  scn = f.scn;
+  tables = tables_shown f.whole f.dict.tables f.tables;
+  names = f.dict.tables;
+  verdict = f.end;
+}
 
 -- the base of a fold that begins so, by the dictionary that its records leave
 abbrev pub base_of : Plain → Standing → Base
-base_of start s = record { tables = tables_shown s.dictionary.finished s.dictionary.tables start.tables; n = start.n; scn = start.scn; local = [] }
+base_of start s = record {
+  tables = tables_shown s.dictionary.finished s.dictionary.tables start.tables;
+  n = start.n;
+  scn = start.scn;
+  local = [];
+}
 
 abbrev pub fold_admitted : Plain → List Skip → Stop → Admitted → Folded
-fold_admitted start skips stop a = named_by a.left.tables (folded (base_of start a.standing) skips a.history.commits (redo_end a stop))
+fold_admitted start skips stop a = named_by a.left.tables
+    (folded (base_of start a.standing) skips a.history.commits (redo_end a stop))
 
 -- the fold of these records from there on
 abbrev pub fold_from : Plain → List Skip → List Entry → Stop → Folded
-fold_from start skips entries stop = fold_admitted start skips stop (admission (standing_of start.law) (no_history start.before) entries)
+fold_from start skips entries stop = fold_admitted start skips stop
+    (admission (standing_of start.law) (no_history start.before) entries)
 
 -- These records may be folded from there on: the rows are sound tables of the dictionary that they leave, and no more commits
 -- stand before than the count has.
@@ -57,7 +70,16 @@ progress_after start skips entries = progress_after_records skips entries (first
 -- the start before the first record of a redo whose first log has this sequence and follows this SCN, over empty tables
 abbrev pub first_start : ℕ → ℕ → Plain
 first_start first base = record {
-  law = record { first = first; base = base; dict = no_dictionary; head = None; rec = 0; known = 0; scn = base; commit_scn = base };
+  law = record {
+    first = first;
+    base = base;
+    dict = no_dictionary;
+    head = None;
+    rec = 0;
+    known = 0;
+    scn = base;
+    commit_scn = base;
+  };
   before = 0;
   n = 0;
   scn = base;

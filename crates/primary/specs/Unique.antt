@@ -23,7 +23,8 @@ lead_of index q = tree.get key_cmp index.owners q
 -- the unique value of this number that a row has, unless there is a Null in it
 abbrev pub unique_at : ℕ → ℕ → List ℕ → List Value → Option Key
 unique_at table number columns row =
-    if list_any is_null (values_at row columns) then None else Some (record { table = table; index = number; values = values_at row columns })
+    if list_any is_null (values_at row columns) then None else Some
+    (record { table = table; index = number; values = values_at row columns })
 
 abbrev pub is_value_of : Key → Option Key → Bool
 is_value_of q None = false
@@ -32,7 +33,8 @@ is_value_of q (Some k) = eq_by_cmp key_cmp k q
 -- a row has this unique value; its unique keys count from this number
 abbrev pub has_from : ℕ → ℕ → List (List ℕ) → List Value → Key → Bool
 has_from table number [] row q = false
-has_from table number (columns ∷ more) row q = is_value_of q (unique_at table number columns row) || has_from table (number + 1) more row q
+has_from table number (columns ∷ more) row q = is_value_of q (unique_at table number columns row) ||
+    has_from table (number + 1) more row q
 
 -- a row of the table has this unique value
 abbrev pub has_unique : TableRow → List Value → Key → Bool
@@ -57,20 +59,24 @@ abbrev pub lead_without : Bool → List Value → Option (List Value) → Option
 lead_without has key lead = cond (has && is_lead key lead) None lead
 
 -- where a value leads after a write of the row of this key: what stood there no longer leads there, what is written does
-abbrev pub lead_after_row : TableRow → List Value → Option (List Value) → Option (List Value) → Key → Option (List Value) → Option (List Value)
+abbrev pub lead_after_row : TableRow → List Value → Option (List Value) → Option (List Value) → Key → Option (List Value) →
+    Option (List Value)
 lead_after_row t key was slot q lead = lead_with (slot_has_unique t slot q) key (lead_without (slot_has_unique t was q) key lead)
 
-abbrev pub lead_after_row_in : Option TableRow → List Value → Option (List Value) → Option (List Value) → Key → Option (List Value) → Option (List Value)
+abbrev pub lead_after_row_in : Option TableRow → List Value → Option (List Value) → Option (List Value) → Key →
+    Option (List Value) → Option (List Value)
 lead_after_row_in None key was slot q lead = lead
 lead_after_row_in (Some t) key was slot q lead = lead_after_row t key was slot q lead
 
 -- after a write over these rows
 abbrev pub lead_after_write : List TableRow → RowsById → Write → Key → Option (List Value) → Option (List Value)
-lead_after_write ts by w q lead = lead_after_row_in (table_of ts w.table) w.key (entries.find row_cmp w.key (rows_by by w.table)) w.row q lead
+lead_after_write ts by w q lead = lead_after_row_in (table_of ts w.table) w.key
+    (entries.find row_cmp w.key (rows_by by w.table)) w.row q lead
 
 -- each unique value of a row leads to it
 abbrev pub LeadsToRows : TableRow → Rows → UniqueIndex → Type 0
-LeadsToRows t rows index = (key row : List Value) (q : Key) → entries.find row_cmp key rows ≡ Some row → has_unique t row q ≡ true → lead_of index q ≡ Some key
+LeadsToRows t rows index = (key row : List Value) (q : Key) → entries.find row_cmp key rows ≡ Some row →
+    has_unique t row q ≡ true → lead_of index q ≡ Some key
 
 -- each unique value of a row of the dictionary's tables does
 abbrev pub IsIndexed : List TableRow → RowsById → UniqueIndex → Type 0

@@ -34,9 +34,11 @@ pub fn effects_of(
     requires empty { over.old ≡ [] }
     requires accepted { AreAccepted base.now.dictionary.tables changes.now }
     requires sound { AreSound (assembled base.now.dictionary.tables base.now.rows) }
-    ensures done { OnOk result (effects (assembled base.now.dictionary.tables base.now.rows) (kept_of skips.now base.now.dictionary.tables n changes.now)
+    ensures done { OnOk result (effects (assembled base.now.dictionary.tables base.now.rows)
+        (kept_of skips.now base.now.dictionary.tables n changes.now)
         ≡ Ok (overlaid (assembled base.now.dictionary.tables base.now.rows) over.new)) }
-    ensures missed { IfErr result (TellsMiss (effects (assembled base.now.dictionary.tables base.now.rows) (kept_of skips.now base.now.dictionary.tables n changes.now))) }
+    ensures missed { IfErr result (TellsMiss (effects (assembled base.now.dictionary.tables base.now.rows)
+        (kept_of skips.now base.now.dictionary.tables n changes.now))) }
     ensures sound { OnOk result (AreSound (overlaid (assembled base.now.dictionary.tables base.now.rows) over.new)) }
     ensures of_tables { OnOk result (IsTrue (are_of base.now.dictionary.tables over.new)) }
 {

@@ -35,7 +35,8 @@ fn index_table(
     table: &TableRow,
     tables: &PlainTables,
 ) -> Result<(), NoMemory>
-    ensures indexed { OnOk result (AreSoundRows table.now (rows_by tables.now table.now.id) → LeadsToRows table.now (rows_by tables.now table.now.id) index.new) }
+    ensures indexed { OnOk result (AreSoundRows table.now (rows_by tables.now table.now.id) →
+        LeadsToRows table.now (rows_by tables.now table.now.id) index.new) }
     ensures others { OnOk result ((q : Key) → (q.table == table.now.id) ≡ false → lead_of index.new q ≡ lead_of index.old q) }
 {
     match tables.table(table.id) {

@@ -24,7 +24,8 @@ pub fn first_fold_is_of_the_redo()
 
 /// Where a fold may begin over records, the rows that wait are sound as each of them comes.
 pub fn rows_are_sound_at_each_record()
-    ensures sound { (start : Plain) (skips : List Skip) (front : List Entry) (e : Entry) (back : List Entry) → IsStart start (front ++ e ∷ back) →
+    ensures sound { (start : Plain) (skips : List Skip) (front : List Entry) (e : Entry) (back : List Entry) →
+        IsStart start (front ++ e ∷ back) →
         RowsAreSound e (progress_after start skips front) }
 {}
 
@@ -36,11 +37,13 @@ pub fn no_rows_are_sound()
 
 /// Over the tables of a whole dictionary a fold may begin whatever records come.
 pub fn a_whole_dictionary_stays()
-    ensures any { (start : Plain) (entries : List Entry) → start.law.dict.finished ≡ true → IsStart start [] → IsStart start entries }
+    ensures any { (start : Plain) (entries : List Entry) → start.law.dict.finished ≡ true → IsStart start [] →
+        IsStart start entries }
 {}
 
 /// A fold that may begin leaves sound tables. The new cells of a change rise by their columns, as those of each decoded one do.
 pub fn a_fold_leaves_sound_tables()
-    ensures sound { (start : Plain) (skips : List Skip) (entries : List Entry) (stop : Stop) → IsStart start entries → AreOfCells entries →
+    ensures sound { (start : Plain) (skips : List Skip) (entries : List Entry) (stop : Stop) → IsStart start entries →
+        AreOfCells entries →
         AreSound (fold_from start skips entries stop).tables }
 {}

@@ -94,7 +94,8 @@ impl LiveChanges {
     }
 
     fn change(&mut self, at: Pos, change: Change) -> Result<(), NoMemory>
-        ensures changed { OnOk result (self.new ≡ with_changes change.xid (λ ps. ps ++ (at, change) ∷ []) self.old (changes_of change.xid self.old)) }
+        ensures changed { OnOk result (self.new ≡ with_changes change.xid (λ ps. ps ++ (at, change) ∷ []) self.old
+            (changes_of change.xid self.old)) }
     {
         match self.by_xid.get_mut(&change.xid) {
             None => Ok(()),

@@ -53,11 +53,14 @@ impl Running {
         requires accepted { AreAccepted self.now.law.dictionary.tables changes.now }
         requires sound { AreSound (assembled self.now.law.dictionary.tables self.now.tables) }
         requires indexed { IsIndexed self.now.law.dictionary.tables self.now.tables self.now.index }
-        ensures done { IfOk result (λ writes. effects (assembled self.now.law.dictionary.tables self.now.tables) (kept_of skips.now self.now.law.dictionary.tables self.now.n changes.now)
+        ensures done { IfOk result (λ writes. effects (assembled self.now.law.dictionary.tables self.now.tables)
+            (kept_of skips.now self.now.law.dictionary.tables self.now.n changes.now)
             ≡ Ok (overlaid (assembled self.now.law.dictionary.tables self.now.tables) writes)) }
-        ensures sound { IfOk result (λ writes. AreSound (overlaid (assembled self.now.law.dictionary.tables self.now.tables) writes)) }
+        ensures sound { IfOk result (λ writes. AreSound (overlaid
+            (assembled self.now.law.dictionary.tables self.now.tables) writes)) }
         ensures of_tables { IfOk result (λ writes. IsTrue (are_of self.now.law.dictionary.tables writes)) }
-        ensures missed { IfErr result (TellsMiss (effects (assembled self.now.law.dictionary.tables self.now.tables) (kept_of skips.now self.now.law.dictionary.tables self.now.n changes.now))) }
+        ensures missed { IfErr result (TellsMiss (effects (assembled self.now.law.dictionary.tables self.now.tables)
+            (kept_of skips.now self.now.law.dictionary.tables self.now.n changes.now))) }
     {
         let mut over = Overlay::new(self.alloc);
         let base = Based::of(self.law.dict(), &self.tables, &self.index);
@@ -79,7 +82,8 @@ impl Running {
         requires accepted { AreAccepted self.old.law.dictionary.tables changes }
         requires sound { AreSound (assembled self.old.law.dictionary.tables self.old.tables) }
         requires kept { KeepsRows self.old }
-        ensures taken { IfOk result (λ end. progress_of end self.new ≡ progress_after_commit skips.now scn changes (fold_state_of self.old)) }
+        ensures taken { IfOk result (λ end. progress_of end self.new ≡
+            progress_after_commit skips.now scn changes (fold_state_of self.old)) }
         ensures sound { IfOk result (λ end. AreSound (assembled self.new.law.dictionary.tables self.new.tables)) }
         ensures kept { IfOk result (λ end. KeepsRows self.new) }
         ensures law { IfOk result (λ end. self.new.law ≡ self.old.law) }
@@ -132,7 +136,8 @@ impl Running {
         requires may { IfSome commit (λ ps. MayCommit self.old ps) }
         requires sound { AreSound (tables_of self.old) }
         requires kept { self.old.whole ≡ true → KeepsRows self.old }
-        ensures taken { IfOk result (λ end. progress_of end self.new ≡ progress_with_commit skips.now scn commit (fold_state_of self.old)) }
+        ensures taken { IfOk result (λ end. progress_of end self.new ≡
+            progress_with_commit skips.now scn commit (fold_state_of self.old)) }
         ensures sound { IfOk result (λ end. AreSound (tables_of self.new)) }
         ensures kept { IfOk result (λ end. self.new.whole ≡ true → KeepsRows self.new) }
         ensures law { IfOk result (λ end. self.new.law ≡ self.old.law) }
@@ -151,11 +156,13 @@ impl Running {
         requires still { self.old.whole ≡ true → self.old.law.dictionary.finished ≡ true }
         requires sound { self.old.whole ≡ true → AreSound (assembled self.old.law.dictionary.tables self.old.tables) }
         requires kept { self.old.whole ≡ true → KeepsRows self.old }
-        ensures only { OnOk result (self.new ≡ record self.old { whole = self.old.law.dictionary.finished; index = self.new.index; count = self.new.count }) }
+        ensures only { OnOk result (self.new ≡ record self.old
+            { whole = self.old.law.dictionary.finished; index = self.new.index; count = self.new.count }) }
         ensures sound { OnOk result (AreSound (tables_of self.new)) }
         ensures kept { OnOk result (self.new.whole ≡ true → KeepsRows self.new) }
         ensures waited { result ≡ Err Unsound → self.old.whole ≡ false }
-        ensures unsound { result ≡ Err Unsound → AreSound (tables_shown self.old.law.dictionary.finished self.old.law.dictionary.tables self.old.tables) → ⊥ }
+        ensures unsound { result ≡ Err Unsound → AreSound
+            (tables_shown self.old.law.dictionary.finished self.old.law.dictionary.tables self.old.tables) → ⊥ }
     {
         if self.whole || !self.law.dict().finished() {
             return Ok(());
@@ -178,7 +185,8 @@ impl Running {
         requires room { self.old.law.rec + 1 < 2 ^ 64 }
         ensures running { IfOk result (λ end. end ≡ None → IsRunning self.new) }
         ensures sound { IfOk result (λ end. AreSound (tables_of self.new)) }
-        ensures taken { IfOk result (λ end. progress_of end self.new ≡ progress_after_record skips.now (head.now, rec) (Going (fold_state_of self.old))) }
+        ensures taken { IfOk result (λ end. progress_of end self.new ≡
+            progress_after_record skips.now (head.now, rec) (Going (fold_state_of self.old))) }
         ensures rows { OnOk result (RowsAreSound (head.now, rec) (Going (fold_state_of self.old))) }
         ensures unsound { result ≡ Err Unsound → RowsAreSound (head.now, rec) (Going (fold_state_of self.old)) → ⊥ }
     {

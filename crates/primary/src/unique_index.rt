@@ -75,7 +75,8 @@ impl UniqueIndex {
 
     /// From now on each unique value of the row leads to this primary key.
     pub fn enter(&mut self, table: &TableRow, key: &Row, row: &Row) -> Result<(), NoMemory>
-        ensures entered { OnOk result ((q : Key) → lead_of self.new q ≡ lead_with (has_unique table.now row.now q) key.now (lead_of self.old q)) }
+        ensures entered { OnOk result ((q : Key) → lead_of self.new q ≡
+            lead_with (has_unique table.now row.now q) key.now (lead_of self.old q)) }
     {
         let mut rest = unique_keys(table);
         let mut number: u8 = 1;
@@ -90,7 +91,8 @@ impl UniqueIndex {
 
     /// No unique value of the row leads to this primary key any more.
     pub fn leave(&mut self, table: &TableRow, key: &Row, row: &Row) -> Result<(), NoMemory>
-        ensures left { OnOk result ((q : Key) → lead_of self.new q ≡ lead_without (has_unique table.now row.now q) key.now (lead_of self.old q)) }
+        ensures left { OnOk result ((q : Key) → lead_of self.new q ≡
+            lead_without (has_unique table.now row.now q) key.now (lead_of self.old q)) }
     {
         let mut rest = unique_keys(table);
         let mut number: u8 = 1;
@@ -104,7 +106,8 @@ impl UniqueIndex {
     }
 
     fn leave_slot(&mut self, table: &TableRow, key: &Row, was: Option<&Row>) -> Result<(), NoMemory>
-        ensures left { OnOk result ((q : Key) → lead_of self.new q ≡ lead_without (slot_has_unique table.now (option_copied was.entry) q) key.now (lead_of self.old q)) }
+        ensures left { OnOk result ((q : Key) → lead_of self.new q ≡
+            lead_without (slot_has_unique table.now (option_copied was.entry) q) key.now (lead_of self.old q)) }
     {
         match was {
             None => Ok(()),
@@ -118,7 +121,8 @@ impl UniqueIndex {
         key: &Row,
         slot: &Option<Row>,
     ) -> Result<(), NoMemory>
-        ensures entered { OnOk result ((q : Key) → lead_of self.new q ≡ lead_with (slot_has_unique table.now slot.now q) key.now (lead_of self.old q)) }
+        ensures entered { OnOk result ((q : Key) → lead_of self.new q ≡
+            lead_with (slot_has_unique table.now slot.now q) key.now (lead_of self.old q)) }
     {
         match slot {
             None => Ok(()),
@@ -134,7 +138,8 @@ impl UniqueIndex {
         was: Option<&Row>,
         slot: &Option<Row>,
     ) -> Result<(), NoMemory>
-        ensures rewritten { OnOk result ((q : Key) → lead_of self.new q ≡ lead_after_row table.now key.now (option_copied was.entry) slot.now q (lead_of self.old q)) }
+        ensures rewritten { OnOk result ((q : Key) → lead_of self.new q ≡
+            lead_after_row table.now key.now (option_copied was.entry) slot.now q (lead_of self.old q)) }
     {
         self.leave_slot(table, key, was)?;
         self.enter_slot(table, key, slot)
@@ -147,7 +152,8 @@ fn enter_value(
     unique: Option<Key>,
     key: &Row,
 ) -> Result<(), NoMemory>
-    ensures entered { OnOk result ((q : Key) → tree.get key_cmp owners.new q ≡ lead_with (is_value_of q unique) key.now (tree.get key_cmp owners.old q)) }
+    ensures entered { OnOk result ((q : Key) → tree.get key_cmp owners.new q ≡
+        lead_with (is_value_of q unique) key.now (tree.get key_cmp owners.old q)) }
 {
     let Some(unique) = unique else {
         return Ok(());
@@ -170,7 +176,8 @@ fn leads_to(found: Option<&Row>, key: &Row) -> bool
 
 // The value does not lead to this primary key.
 fn leave_value(owners: &mut BTreeMap<Key, Row>, unique: Option<Key>, key: &Row)
-    ensures left { (q : Key) → tree.get key_cmp owners.new q ≡ lead_without (is_value_of q unique) key.now (tree.get key_cmp owners.old q) }
+    ensures left { (q : Key) → tree.get key_cmp owners.new q ≡
+        lead_without (is_value_of q unique) key.now (tree.get key_cmp owners.old q) }
 {
     let Some(unique) = unique else {
         return;

@@ -117,7 +117,8 @@ fn index_write(
     index: &mut UniqueIndex,
     write: &Write,
 ) -> Result<(), NoMemory>
-    ensures indexed { OnOk result ((q : Key) → lead_of index.new q ≡ lead_after_write dict.now.tables tables.now write.now q (lead_of index.old q)) }
+    ensures indexed { OnOk result ((q : Key) → lead_of index.new q ≡
+        lead_after_write dict.now.tables tables.now write.now q (lead_of index.old q)) }
 {
     match dict.def(write.table) {
         None => Ok(()),
@@ -160,7 +161,8 @@ pub fn put_in(
     requires sound { AreSound (assembled dict.now.tables tables.old) }
     requires sound_then { AreSound (overlaid (assembled dict.now.tables tables.old) writes) }
     requires of_tables { IsTrue (are_of dict.now.tables writes) }
-    ensures few { IfOk result (λ put. put ≡ not (nat_lt live_row_limit (row_count (overlaid (assembled dict.now.tables tables.old) writes)))) }
+    ensures few { IfOk result (λ put. put ≡ not (nat_lt live_row_limit
+        (row_count (overlaid (assembled dict.now.tables tables.old) writes)))) }
     ensures written { IfOk result (λ put. assembled dict.now.tables tables.new
         ≡ (if put then overlaid (assembled dict.now.tables tables.old) writes else assembled dict.now.tables tables.old)) }
     ensures indexed { OnOk result (IsIndexed dict.now.tables tables.new index.new) }

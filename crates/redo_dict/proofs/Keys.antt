@@ -15,7 +15,8 @@ joined true b x y = absurd (cc)
 joined false b x y = y
 
 -- none has bad keys with a new one that has none
-pub keys_with : (t : TableRow) (ts : List TableRow) → list_any has_bad_keys ts ≡ false → has_bad_keys t ≡ false → list_any has_bad_keys (with_table t ts) ≡ false
+pub keys_with : (t : TableRow) (ts : List TableRow) → list_any has_bad_keys ts ≡ false → has_bad_keys t ≡ false →
+    list_any has_bad_keys (with_table t ts) ≡ false
 keys_with t [] e new = joined (has_bad_keys t) false new refl
 keys_with t (u ∷ us) e new =
     let parts = neither (has_bad_keys u) (list_any has_bad_keys us) e in
@@ -25,7 +26,8 @@ keys_with t (u ∷ us) e new =
     ]
 
 -- a table that is found has none
-found_keys : (ts : List TableRow) (id : ℕ) (t : TableRow) → list_any has_bad_keys ts ≡ false → table_of ts id ≡ Some t → has_bad_keys t ≡ false
+found_keys : (ts : List TableRow) (id : ℕ) (t : TableRow) → list_any has_bad_keys ts ≡ false → table_of ts id ≡ Some t →
+    has_bad_keys t ≡ false
 found_keys [] id t e found = absurd (cc)
 found_keys (u ∷ us) id t e found =
     let parts = neither (has_bad_keys u) (list_any has_bad_keys us) e in
@@ -34,6 +36,7 @@ found_keys (u ∷ us) id t e found =
       | false ↦ λ h. found_keys us id t parts.1 h
     ] found
 
-pub found_has_none : (ts : List TableRow) (id : ℕ) (o : Option (Bor TableRow)) → list_any has_bad_keys ts ≡ false → option_copied o ≡ table_of ts id → IfSome o (λ t. has_bad_keys t.now ≡ false)
+pub found_has_none : (ts : List TableRow) (id : ℕ) (o : Option (Bor TableRow)) → list_any has_bad_keys ts ≡ false →
+    option_copied o ≡ table_of ts id → IfSome o (λ t. has_bad_keys t.now ≡ false)
 found_has_none ts id None e found = tt
 found_has_none ts id (Some t) e found = found_keys ts id t.now e (sym found)

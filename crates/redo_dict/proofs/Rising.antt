@@ -18,7 +18,8 @@ both true false e = absurd (cc)
 both false b e = absurd (cc)
 
 -- each id is not below the least one
-ids_low : (from : ℕ) (ts : List TableRow) → ids_rise from ts ≡ true → (k : ℕ) (d : TableRow) → k < length ts → from ≤ (get_or ts k d).id
+ids_low : (from : ℕ) (ts : List TableRow) → ids_rise from ts ≡ true → (k : ℕ) (d : TableRow) → k < length ts →
+    from ≤ (get_or ts k d).id
 ids_low from [] e k d inside = absurd (omega (arith, inside))
 ids_low from (t ∷ ts) e zero d inside = grind (arith, nat_tests, (both (nat_le from t.id) _ e).0)
 ids_low from (t ∷ ts) e (suc k) d inside =
@@ -51,7 +52,8 @@ none_below id from (t ∷ ts) e low =
 
 -- the table of an id stands where those with lower ids end, or nowhere
 pub found_at : (id from : ℕ) (ts : List TableRow) → ids_rise from ts ≡ true → (i : ℕ) →
-    AllWithin (λ t. nat_lt t.id id ≡ true) ts 0 i → AllWithin (λ t. nat_lt t.id id ≡ false) ts i (length ts) → if_of_id id (slice_get ts i) ≡ table_of ts id
+    AllWithin (λ t. nat_lt t.id id ≡ true) ts 0 i → AllWithin (λ t. nat_lt t.id id ≡ false) ts i (length ts) →
+    if_of_id id (slice_get ts i) ≡ table_of ts id
 found_at id from [] e i low high = refl
 found_at id from (t ∷ ts) e zero low high =
     let parts = both (nat_le from t.id) (ids_rise (t.id + 1) ts) e in
@@ -62,18 +64,22 @@ found_at id from (t ∷ ts) e (suc i) low high =
     let parts = both (nat_le from t.id) (ids_rise (t.id + 1) ts) e in
     let here = low 0 t (omega arith) (omega arith) in
     let other : (t.id == id) ≡ false = grind (arith, nat_tests, here) in
-    found_at id (t.id + 1) ts parts.1 i (λ k d a b. low (suc k) d (omega arith) (omega (arith, b))) (λ k d a b. high (suc k) d (omega (arith, a)) (omega (arith, b)))
+    found_at id (t.id + 1) ts parts.1 i (λ k d a b. low (suc k) d (omega arith) (omega (arith, b)))
+    (λ k d a b. high (suc k) d (omega (arith, a)) (omega (arith, b)))
     ∙ sym (ap (λ b. cond b (Some t) (table_of ts id)) other)
 
 no_id : (t u : TableRow) (rest : Bool) → (same_table t u || rest) ≡ false → ((t.id == u.id) ≡ false) × (rest ≡ false)
-no_id t u rest e = elim (t.id == u.id) as (λ b. ((b || (same_bytes t.schema u.schema && same_bytes t.name u.name)) || rest) ≡ false → (b ≡ false) × (rest ≡ false)) [
-  | true ↦ λ h. absurd (cc)
-  | false ↦ λ h. (refl, second (same_bytes t.schema u.schema && same_bytes t.name u.name) rest h)
-] e
+no_id t u rest e = elim (t.id == u.id) as (λ b. ((b || (same_bytes t.schema u.schema && same_bytes t.name u.name)) || rest) ≡
+    false → (b ≡ false) × (rest ≡ false)) [
+      | true ↦ λ h. absurd (cc)
+      | false ↦ λ h. (refl, second (same_bytes t.schema u.schema && same_bytes t.name u.name) rest h)
+    ] e
 
 -- a new table goes where those with lower ids end
-pub inserted_at : (t : TableRow) (from : ℕ) (ts : List TableRow) → ids_rise from ts ≡ true → list_any (same_table t) ts ≡ false → (i : ℕ) → i ≤ length ts →
-    AllWithin (λ u. nat_lt u.id t.id ≡ true) ts 0 i → AllWithin (λ u. nat_lt u.id t.id ≡ false) ts i (length ts) → insert ts i t ≡ with_table t ts
+pub inserted_at : (t : TableRow) (from : ℕ) (ts : List TableRow) → ids_rise from ts ≡ true → list_any (same_table t) ts ≡ false →
+    (i : ℕ) → i ≤ length ts →
+    AllWithin (λ u. nat_lt u.id t.id ≡ true) ts 0 i → AllWithin (λ u. nat_lt u.id t.id ≡ false) ts i (length ts) →
+    insert ts i t ≡ with_table t ts
 inserted_at t from [] e new zero inside low high = refl
 inserted_at t from [] e new (suc i) inside low high = absurd (omega (arith, inside))
 inserted_at t from (u ∷ us) e new zero inside low high =
@@ -84,7 +90,8 @@ inserted_at t from (u ∷ us) e new zero inside low high =
 inserted_at t from (u ∷ us) e new (suc i) inside low high =
     let here = low 0 u (omega arith) (omega arith) in
     let behind : nat_lt t.id u.id ≡ false = grind (arith, nat_tests, here) in
-    ap (λ vs. u ∷ vs) (inserted_at t (u.id + 1) us (both (nat_le from u.id) _ e).1 (no_id t u (list_any (same_table t) us) new).1 i (omega (arith, inside))
+    ap (λ vs. u ∷ vs) (inserted_at t (u.id + 1) us (both (nat_le from u.id) _ e).1 (no_id t u (list_any (same_table t) us) new).1
+    i (omega (arith, inside))
     (λ k d a b. low (suc k) d (omega arith) (omega (arith, b))) (λ k d a b. high (suc k) d (omega (arith, a)) (omega (arith, b))))
     ∙ sym (ap (λ b. cond b (t ∷ u ∷ us) (u ∷ with_table t us)) behind)
 
@@ -93,7 +100,8 @@ join true b x y = y
 join false b x y = absurd (cc)
 
 -- ids rise with a new table in its place
-pub rises_with : (t : TableRow) (from : ℕ) (ts : List TableRow) → ids_rise from ts ≡ true → list_any (same_table t) ts ≡ false → from ≤ t.id → ids_rise from (with_table t ts) ≡ true
+pub rises_with : (t : TableRow) (from : ℕ) (ts : List TableRow) → ids_rise from ts ≡ true → list_any (same_table t) ts ≡ false →
+    from ≤ t.id → ids_rise from (with_table t ts) ≡ true
 rises_with t from [] e new low = join (nat_le from t.id) true (grind (arith, nat_tests, low)) refl
 rises_with t from (u ∷ us) e new low =
     let parts = both (nat_le from u.id) (ids_rise (u.id + 1) us) e in

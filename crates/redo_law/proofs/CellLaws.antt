@@ -6,10 +6,12 @@ use Rattle.rl_value.specs.declared.value.Value.{Value}
 use Rattle.redo_vec.specs.Forms.{are_keys, is_key_columns, rises}
 use Rattle.redo_spec.specs.ConflictKeys.{cell_of}
 
-pub cell_behind : (first second : List (ℕ × Value)) (column : ℕ) → cell_of (first ++ second) column ≡ option_or (cell_of first column) (cell_of second column)
+pub cell_behind : (first second : List (ℕ × Value)) (column : ℕ) →
+    cell_of (first ++ second) column ≡ option_or (cell_of first column) (cell_of second column)
 cell_behind [] second column = refl
 cell_behind (c ∷ cs) second column =
-    elim (c.0 == column) as (λ b. cond b (Some c.1) (cell_of (cs ++ second) column) ≡ option_or (cond b (Some c.1) (cell_of cs column)) (cell_of second column)) [
+    elim (c.0 == column) as (λ b. cond b (Some c.1) (cell_of (cs ++ second) column) ≡
+    option_or (cond b (Some c.1) (cell_of cs column)) (cell_of second column)) [
       | true ↦ refl
       | false ↦ cell_behind cs second column
     ]
@@ -18,7 +20,8 @@ cell_behind (c ∷ cs) second column =
 abbrev pub values_with : List Value → Option (List Value) → Option (List Value)
 values_with front rest = option_map (λ values. front ++ values) rest
 
-pub values_more : (front : List Value) (v : Value) (rest : Option (List Value)) → values_with (front ++ v ∷ []) rest ≡ values_with front (option_map (λ values. v ∷ values) rest)
+pub values_more : (front : List Value) (v : Value) (rest : Option (List Value)) →
+    values_with (front ++ v ∷ []) rest ≡ values_with front (option_map (λ values. v ∷ values) rest)
 values_more front v None = refl
 values_more front v (Some values) = ap (λ (vs : List Value). Some vs) (simp append_assoc refl)
 

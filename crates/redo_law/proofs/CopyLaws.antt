@@ -22,11 +22,14 @@ use Rattle.redo_law.specs.Seen.{BeganBy}
 turned : {K : Type 0} (cmp : K → K → Ordering) → IsTotalOrder cmp → (k l : K) → cmp l k ≡ Less → cmp k l ≡ Greater
 turned cmp o k l e = o.antisymm k l ∙ ap ordering_reverse e
 
-in_middle : {K V : Type 0} (cmp : K → K → Ordering) (k : K) (es : List (K × V)) (e : K × V) (rest : List (K × V)) → AllByRecursion (λ l. cmp k l ≡ Less) (keys_of (es ++ e ∷ rest)) → cmp k e.0 ≡ Less
+in_middle : {K V : Type 0} (cmp : K → K → Ordering) (k : K) (es : List (K × V)) (e : K × V) (rest : List (K × V)) →
+    AllByRecursion (λ l. cmp k l ≡ Less) (keys_of (es ++ e ∷ rest)) → cmp k e.0 ≡ Less
 in_middle cmp k [] e rest h = h.0
 in_middle cmp k (f ∷ es) e rest h = in_middle cmp k es e rest h.1
 
-inserted_behind : {K V : Type 0} (cmp : K → K → Ordering) → IsTotalOrder cmp → (es : List (K × V)) (e : K × V) (rest : List (K × V)) → IsStrictlySortedBy cmp (keys_of (es ++ e ∷ rest)) → insert_entry cmp es e.0 e.1 ++ rest ≡ es ++ e ∷ rest
+inserted_behind : {K V : Type 0} (cmp : K → K → Ordering) → IsTotalOrder cmp →
+    (es : List (K × V)) (e : K × V) (rest : List (K × V)) → IsStrictlySortedBy cmp (keys_of (es ++ e ∷ rest)) →
+    insert_entry cmp es e.0 e.1 ++ rest ≡ es ++ e ∷ rest
 inserted_behind cmp o [] e rest s = refl
 inserted_behind cmp o (f ∷ es) e rest s =
     let after = turned cmp o e.0 f.0 (in_middle cmp f.0 es e rest (sorted_head cmp f.0 (keys_of (es ++ e ∷ rest)) s)) in
@@ -34,14 +37,18 @@ inserted_behind cmp o (f ∷ es) e rest s =
     ∙ ap (λ l. f ∷ l) (inserted_behind cmp o es e rest (sorted_tail cmp f.0 (keys_of (es ++ e ∷ rest)) s))
 
 -- with the next entry the copies and those that are left are still all
-pub copied_step : {K V : Type 0} (cmp : K → K → Ordering) → IsTotalOrder cmp → (es rest left all new : List (K × V)) (k : K) (v : V) → IsStrictlySortedBy cmp (keys_of all) → es ++ rest ≡ all → rest ≡ (k, v) ∷ left →
+pub copied_step : {K V : Type 0} (cmp : K → K → Ordering) → IsTotalOrder cmp →
+    (es rest left all new : List (K × V)) (k : K) (v : V) → IsStrictlySortedBy cmp (keys_of all) → es ++ rest ≡ all →
+    rest ≡ (k, v) ∷ left →
     new ≡ insert_entry cmp es k v → new ++ left ≡ all
 copied_step {K = K} {V = V} cmp o es rest left all new k v s whole first is =
     let before : es ++ (k, v) ∷ left ≡ all = ap (λ (r : List (K × V)). es ++ r) (sym first) ∙ whole in
-    ap (λ (n : List (K × V)). n ++ left) is ∙ inserted_behind cmp o es (k, v) left (subst (λ (a : List (K × V)). IsStrictlySortedBy cmp (keys_of a)) (sym before) s) ∙ before
+    ap (λ (n : List (K × V)). n ++ left) is ∙ inserted_behind cmp o es (k, v) left
+    (subst (λ (a : List (K × V)). IsStrictlySortedBy cmp (keys_of a)) (sym before) s) ∙ before
 
 -- a table with the entries of another is one where the other is
-pub copied_table : (t u : Table) → IsTable t → u.xids.entries ≡ t.xids.entries → u.txns.entries ≡ t.txns.entries → u.locks.entries ≡ t.locks.entries → u.survivors ≡ t.survivors → IsTable u
+pub copied_table : (t u : Table) → IsTable t → u.xids.entries ≡ t.xids.entries → u.txns.entries ≡ t.txns.entries →
+    u.locks.entries ≡ t.locks.entries → u.survivors ≡ t.survivors → IsTable u
 copied_table t u h xids txns locks survivors =
     subst (Keeps u) (sym (ap opened_all txns)) (record {
       ids = λ x. ap (λ (es : List (Xid × Pos)). lookup (is_at (xid_cmp x)) es) xids ∙ h.ids x;

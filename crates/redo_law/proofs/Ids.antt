@@ -51,11 +51,18 @@ and_assoc false b c = refl
 
 pub xid_at : (x y : Xid) → is_eq (xid_cmp x y) ≡ same_xid x y
 xid_at x y =
-    rw (then_eq (nat_cmp x.usn y.usn) (ordering_then (nat_cmp x.slot y.slot) (nat_cmp x.sqn y.sqn)), then_eq (nat_cmp x.slot y.slot) (nat_cmp x.sqn y.sqn), cmp_eq x.usn y.usn, cmp_eq x.slot y.slot, cmp_eq x.sqn y.sqn)
+    rw (
+      then_eq (nat_cmp x.usn y.usn) (ordering_then (nat_cmp x.slot y.slot) (nat_cmp x.sqn y.sqn)),
+      then_eq (nat_cmp x.slot y.slot) (nat_cmp x.sqn y.sqn),
+      cmp_eq x.usn y.usn,
+      cmp_eq x.slot y.slot,
+      cmp_eq x.sqn y.sqn,
+    )
     (and_assoc (x.usn == y.usn) (x.slot == y.slot) (x.sqn == y.sqn))
 
 pub pos_total : IsTotalOrder pos_cmp
 pos_total = then_total (on_total (λ p. p.rec) nat_cmp_total) (on_total (λ p. p.vec) nat_cmp_total)
 
 pub xid_total : IsTotalOrder xid_cmp
-xid_total = then_total (on_total (λ x. x.usn) nat_cmp_total) (then_total (on_total (λ x. x.slot) nat_cmp_total) (on_total (λ x. x.sqn) nat_cmp_total))
+xid_total = then_total (on_total (λ x. x.usn) nat_cmp_total)
+    (then_total (on_total (λ x. x.slot) nat_cmp_total) (on_total (λ x. x.sqn) nat_cmp_total))

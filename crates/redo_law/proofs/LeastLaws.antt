@@ -73,18 +73,22 @@ least_low (k ∷ ks) p e q among =
           ]
       | Some l ↦ λ is h.
           let low : IsLow l ks = least_low ks l is in
-          elim (is_lt (key_cmp l.0 k.0)) as (λ b. is_lt (key_cmp l.0 k.0) ≡ b → Some (cond b l k) ≡ Some p → is_gt (key_cmp p.0 q.0) ≡ false) [
+          elim (is_lt (key_cmp l.0 k.0)) as (λ b. is_lt (key_cmp l.0 k.0) ≡ b → Some (cond b l k) ≡ Some p →
+          is_gt (key_cmp p.0 q.0) ≡ false) [
             | true ↦ λ less g.
                 let here : l ≡ p = some_is l p g in
-                subst (λ (r : Key × Xid). is_gt (key_cmp r.0 q.0) ≡ false) here (elim among as (λ a. is_gt (key_cmp l.0 q.0) ≡ false) [
+                subst (λ (r : Key × Xid). is_gt (key_cmp r.0 q.0) ≡ false) here
+                (elim among as (λ a. is_gt (key_cmp l.0 q.0) ≡ false) [
                   | inl same ↦ ap (λ r. is_gt (key_cmp l.0 r.0)) same ∙ lt_not_gt (key_cmp l.0 k.0) less
                   | inr later ↦ low q later
                 ])
             | false ↦ λ less g.
                 let here : k ≡ p = some_is k p g in
-                subst (λ (r : Key × Xid). is_gt (key_cmp r.0 q.0) ≡ false) here (elim among as (λ a. is_gt (key_cmp k.0 q.0) ≡ false) [
+                subst (λ (r : Key × Xid). is_gt (key_cmp r.0 q.0) ≡ false) here
+                (elim among as (λ a. is_gt (key_cmp k.0 q.0) ≡ false) [
                   | inl same ↦ itself_low k q same
-                  | inr later ↦ upto key_total k.0 l.0 q.0 (ap is_gt (key_total.antisymm k.0 l.0) ∙ not_lt (key_cmp l.0 k.0) less) (low q later)
+                  | inr later ↦ upto key_total k.0 l.0 q.0
+                      (ap is_gt (key_total.antisymm k.0 l.0) ∙ not_lt (key_cmp l.0 k.0) less) (low q later)
                 ])
           ] refl h
     ] refl e
@@ -101,7 +105,8 @@ IsSingle l = (p q : Key × Xid) → IsIn p l → IsIn q l → p.0 ≡ q.0 → p 
 in_none : {C : Type 0} (p : Key × Xid) (l : List (Key × Xid)) → IsIn p l → least l ≡ None → C
 in_none p l among e = absurd (subst (IsIn p) (least_none l e) among)
 
-pub least_same : (a b : List (Key × Xid)) → ((p : Key × Xid) → IsIn p a → IsIn p b) → ((p : Key × Xid) → IsIn p b → IsIn p a) → IsSingle a → least a ≡ least b
+pub least_same : (a b : List (Key × Xid)) → ((p : Key × Xid) → IsIn p a → IsIn p b) → ((p : Key × Xid) → IsIn p b → IsIn p a) →
+    IsSingle a → least a ≡ least b
 least_same a b to back single =
     elim (least a) as (λ o. least a ≡ o → o ≡ least b) [
       | None ↦ λ none. elim (least b) as (λ o. least b ≡ o → None ≡ o) [
@@ -213,17 +218,20 @@ with_in x k (l ∷ ls) among = elim among as (λ m. IsIn {A = Key × Xid} (k, x)
 abbrev held_of : Xid → List (List Key) → List (Key × Xid)
 held_of x kss = flat_map (λ keys. map (λ k. (k, x)) keys) kss
 
-in_held_of : (x : Xid) (p : Key × Xid) (kss : List (List Key)) → IsIn p (held_of x kss) → (list_any (has_key p.0) kss ≡ true) × (p.1 ≡ x)
+in_held_of : (x : Xid) (p : Key × Xid) (kss : List (List Key)) → IsIn p (held_of x kss) →
+    (list_any (has_key p.0) kss ≡ true) × (p.1 ≡ x)
 in_held_of x p [] among = absurd among
-in_held_of x p (ks ∷ kss) among = elim (in_append p (map (λ k. (k, x)) ks) (held_of x kss) among) as (λ m. ((has_key p.0 ks || list_any (has_key p.0) kss) ≡ true) × (p.1 ≡ x)) [
-  | inl front ↦ let here = in_with x p ks front in (or_left _ _ (keys_in p.0 ks here.0), here.1)
-  | inr back ↦ let rest = in_held_of x p kss back in (or_right _ _ rest.0, rest.1)
-]
+in_held_of x p (ks ∷ kss) among = elim (in_append p (map (λ k. (k, x)) ks) (held_of x kss) among)
+    as (λ m. ((has_key p.0 ks || list_any (has_key p.0) kss) ≡ true) × (p.1 ≡ x)) [
+      | inl front ↦ let here = in_with x p ks front in (or_left _ _ (keys_in p.0 ks here.0), here.1)
+      | inr back ↦ let rest = in_held_of x p kss back in (or_right _ _ rest.0, rest.1)
+    ]
 
 held_of_in : (x : Xid) (k : Key) (kss : List (List Key)) → list_any (has_key k) kss ≡ true → IsIn (k, x) (held_of x kss)
 held_of_in x k [] e = absurd (cc)
 held_of_in x k (ks ∷ kss) e =
-    elim (has_key k ks) as (λ b. has_key k ks ≡ b → (b || list_any (has_key k) kss) ≡ true → IsIn {A = Key × Xid} (k, x) (map (λ k. (k, x)) ks ++ held_of x kss)) [
+    elim (has_key k ks) as (λ b. has_key k ks ≡ b → (b || list_any (has_key k) kss) ≡ true →
+    IsIn {A = Key × Xid} (k, x) (map (λ k. (k, x)) ks ++ held_of x kss)) [
       | true ↦ λ is h. append_front (k, x) (map (λ k. (k, x)) ks) (held_of x kss) (with_in x k ks (in_keys k ks is))
       | false ↦ λ is h. append_back (k, x) (map (λ k. (k, x)) ks) (held_of x kss) (held_of_in x k kss h)
     ] refl e
@@ -237,14 +245,22 @@ record IsHeld (p : Key × Xid) (ts : List OpenTxn) : Type 0 where
 in_held : (p : Key × Xid) (ts : List OpenTxn) → IsIn p (held_keys ts) → IsHeld p ts
 in_held p [] among = absurd among
 in_held p (t ∷ ts) among = elim (in_append p (held_of t.xid t.keys) (held_keys ts) among) as (λ m. IsHeld p (t ∷ ts)) [
-  | inl front ↦ let here = in_held_of t.xid p t.keys front in record { txn = t; among = inl refl; touched = here.0; holder = here.1 }
-  | inr back ↦ let rest = in_held p ts back in record { txn = rest.txn; among = inr rest.among; touched = rest.touched; holder = rest.holder }
+  | inl front ↦ let here = in_held_of t.xid p t.keys front in
+      record { txn = t; among = inl refl; touched = here.0; holder = here.1 }
+  | inr back ↦ let rest = in_held p ts back in record {
+    txn = rest.txn;
+    among = inr rest.among;
+    touched = rest.touched;
+    holder = rest.holder;
+  }
 ]
 
-held_in : (k : Key) (t : OpenTxn) (ts : List OpenTxn) → IsIn t ts → list_any (has_key k) t.keys ≡ true → IsIn (k, t.xid) (held_keys ts)
+held_in : (k : Key) (t : OpenTxn) (ts : List OpenTxn) → IsIn t ts → list_any (has_key k) t.keys ≡ true →
+    IsIn (k, t.xid) (held_keys ts)
 held_in k t [] among e = absurd among
 held_in k t (u ∷ us) among e = elim among as (λ m. IsIn (k, t.xid) (held_of u.xid u.keys ++ held_keys us)) [
-  | inl same ↦ append_front (k, t.xid) (held_of u.xid u.keys) (held_keys us) (subst (λ (v : OpenTxn). IsIn (k, t.xid) (held_of v.xid v.keys)) same (held_of_in t.xid k t.keys e))
+  | inl same ↦ append_front (k, t.xid) (held_of u.xid u.keys) (held_keys us)
+      (subst (λ (v : OpenTxn). IsIn (k, t.xid) (held_of v.xid v.keys)) same (held_of_in t.xid k t.keys e))
   | inr later ↦ append_back (k, t.xid) (held_of u.xid u.keys) (held_keys us) (held_in k t us later e)
 ]
 
@@ -265,7 +281,8 @@ not_none x (Some y) e n = absurd (cc)
 in_open : (ts : List OpenTxn) → Apart ts → (t : OpenTxn) → IsIn t ts → open_of t.xid ts ≡ Some t
 in_open [] a t among = absurd among
 in_open (u ∷ us) a t among = elim among as (λ m. cond (same_xid u.xid t.xid) (Some u) (open_of t.xid us) ≡ Some t) [
-  | inl same ↦ subst (λ (v : OpenTxn). cond (same_xid u.xid v.xid) (Some u) (open_of v.xid us) ≡ Some v) (sym same) (ap (λ b. cond b (Some u) (open_of u.xid us)) (xid_itself u.xid))
+  | inl same ↦ subst (λ (v : OpenTxn). cond (same_xid u.xid v.xid) (Some u) (open_of v.xid us) ≡ Some v) (sym same)
+      (ap (λ b. cond b (Some u) (open_of u.xid us)) (xid_itself u.xid))
   | inr later ↦
       let there = in_open us a.1 t later in
       elim (same_xid u.xid t.xid) as (λ b. same_xid u.xid t.xid ≡ b → cond b (Some u) (open_of t.xid us) ≡ Some t) [
@@ -283,56 +300,78 @@ record IsBlocked (holds : Key → Option Hold) (x : Xid) (ks : List Key) (p : Ke
   other : same_xid hold.holder x ≡ false
   touched : IsIn p.0 ks
 
-later_blocked : (holds : Key → Option Hold) (x : Xid) (k : Key) (ks : List Key) (p : Key × Xid) → IsBlocked holds x ks p → IsBlocked holds x (k ∷ ks) p
-later_blocked holds x k ks p b = record { hold = b.hold; held = b.held; holder = b.holder; other = b.other; touched = inr b.touched }
+later_blocked : (holds : Key → Option Hold) (x : Xid) (k : Key) (ks : List Key) (p : Key × Xid) → IsBlocked holds x ks p →
+    IsBlocked holds x (k ∷ ks) p
+later_blocked holds x k ks p b = record {
+  hold = b.hold;
+  held = b.held;
+  holder = b.holder;
+  other = b.other;
+  touched = inr b.touched;
+}
 
-in_blocked : (holds : Key → Option Hold) (x : Xid) (ks : List Key) (p : Key × Xid) → IsIn p (blocked holds x ks) → IsBlocked holds x ks p
+in_blocked : (holds : Key → Option Hold) (x : Xid) (ks : List Key) (p : Key × Xid) → IsIn p (blocked holds x ks) →
+    IsBlocked holds x ks p
 in_blocked holds x [] p among = absurd among
 in_blocked holds x (k ∷ ks) p among =
     elim (holds k) as (λ o. holds k ≡ o → IsIn p (if_blocked x k o (blocked holds x ks)) → IsBlocked holds x (k ∷ ks) p) [
       | None ↦ λ is m. later_blocked holds x k ks p (in_blocked holds x ks p m)
       | Some h ↦ λ is m.
-          elim (same_xid h.holder x) as (λ b. same_xid h.holder x ≡ b → IsIn p (cond b (blocked holds x ks) ((k, h.holder) ∷ blocked holds x ks)) → IsBlocked holds x (k ∷ ks) p) [
+          elim (same_xid h.holder x) as (λ b. same_xid h.holder x ≡ b →
+          IsIn p (cond b (blocked holds x ks) ((k, h.holder) ∷ blocked holds x ks)) → IsBlocked holds x (k ∷ ks) p) [
             | true ↦ λ own n. later_blocked holds x k ks p (in_blocked holds x ks p n)
             | false ↦ λ own n. elim n as (λ a. IsBlocked holds x (k ∷ ks) p) [
-              | inl same ↦ record { hold = h; held = ap (λ r. holds r.0) same ∙ is; holder = ap (λ r. r.1) same; other = own; touched = inl (ap (λ r. r.0) same) }
+              | inl same ↦ record {
+                hold = h;
+                held = ap (λ r. holds r.0) same ∙ is;
+                holder = ap (λ r. r.1) same;
+                other = own;
+                touched = inl (ap (λ r. r.0) same);
+              }
               | inr later ↦ later_blocked holds x k ks p (in_blocked holds x ks p later)
             ]
           ] refl m
     ] refl among
 
-blocked_in : (holds : Key → Option Hold) (x : Xid) (ks : List Key) (k : Key) (h : Hold) → holds k ≡ Some h → same_xid h.holder x ≡ false → IsIn k ks → IsIn (k, h.holder) (blocked holds x ks)
+blocked_in : (holds : Key → Option Hold) (x : Xid) (ks : List Key) (k : Key) (h : Hold) → holds k ≡ Some h →
+    same_xid h.holder x ≡ false → IsIn k ks → IsIn (k, h.holder) (blocked holds x ks)
 blocked_in holds x [] k h held other among = absurd among
-blocked_in holds x (l ∷ ls) k h held other among = elim among as (λ m. IsIn (k, h.holder) (if_blocked x l (holds l) (blocked holds x ls))) [
-  | inl same ↦
-      (subst (λ (j : Key). IsIn (k, h.holder) (if_blocked x j (holds j) (blocked holds x ls))) same
-      (subst (λ (o : Option Hold). IsIn (k, h.holder) (if_blocked x k o (blocked holds x ls))) (sym held)
-      (subst (λ (b : Bool). IsIn (k, h.holder) (cond b (blocked holds x ls) ((k, h.holder) ∷ blocked holds x ls))) (sym other) (inl refl))))
-  | inr later ↦
-      let rest = blocked_in holds x ls k h held other later in
-      elim (holds l) as (λ o. IsIn (k, h.holder) (if_blocked x l o (blocked holds x ls))) [
-        | None ↦ rest
-        | Some g ↦ elim (same_xid g.holder x) as (λ b. IsIn (k, h.holder) (cond b (blocked holds x ls) ((l, g.holder) ∷ blocked holds x ls))) [
-          | true ↦ rest
-          | false ↦ inr rest
-        ]
-      ]
-]
+blocked_in holds x (l ∷ ls) k h held other among = elim among
+    as (λ m. IsIn (k, h.holder) (if_blocked x l (holds l) (blocked holds x ls))) [
+      | inl same ↦
+          (subst (λ (j : Key). IsIn (k, h.holder) (if_blocked x j (holds j) (blocked holds x ls))) same
+          (subst (λ (o : Option Hold). IsIn (k, h.holder) (if_blocked x k o (blocked holds x ls))) (sym held)
+          (subst (λ (b : Bool). IsIn (k, h.holder) (cond b (blocked holds x ls) ((k, h.holder) ∷ blocked holds x ls)))
+          (sym other) (inl refl))))
+      | inr later ↦
+          let rest = blocked_in holds x ls k h held other later in
+          elim (holds l) as (λ o. IsIn (k, h.holder) (if_blocked x l o (blocked holds x ls))) [
+            | None ↦ rest
+            | Some g ↦ elim (same_xid g.holder x) as (λ b. IsIn (k, h.holder)
+                (cond b (blocked holds x ls) ((l, g.holder) ∷ blocked holds x ls))) [
+                  | true ↦ rest
+                  | false ↦ inr rest
+                ]
+          ]
+    ]
 
 -- the hold is the one of the transaction that is found
 own_is : (x : Xid) (o : Option Hold) (i : ℕ) → own_change x o ≡ Some i → (h : Hold) × (o ≡ Some h) × (h.holder ≡ x)
 own_is x None i e = absurd (cc)
 own_is x (Some h) i e =
-    elim (same_xid h.holder x) as (λ b. same_xid h.holder x ≡ b → cond b (Some h.change) None ≡ Some i → (g : Hold) × (Some h ≡ Some g) × (g.holder ≡ x)) [
+    elim (same_xid h.holder x) as (λ b. same_xid h.holder x ≡ b → cond b (Some h.change) None ≡ Some i → (g : Hold) ×
+    (Some h ≡ Some g) × (g.holder ≡ x)) [
       | true ↦ λ is f. (h, refl, xid_is h.holder x is)
       | false ↦ λ is f. absurd (cc)
     ] refl e
 
 -- a found change is a touching one of an open transaction
-change_is : (k : Key) (o : Option OpenTxn) (i : ℕ) → change_in k o ≡ Some i → (t : OpenTxn) × (o ≡ Some t) × (list_any (has_key k) t.keys ≡ true)
+change_is : (k : Key) (o : Option OpenTxn) (i : ℕ) → change_in k o ≡ Some i → (t : OpenTxn) × (o ≡ Some t) ×
+    (list_any (has_key k) t.keys ≡ true)
 change_is k None i e = absurd (cc)
 change_is k (Some t) i e =
-    elim (list_any (has_key k) t.keys) as (λ b. list_any (has_key k) t.keys ≡ b → (u : OpenTxn) × (Some t ≡ Some u) × (list_any (has_key k) u.keys ≡ true)) [
+    elim (list_any (has_key k) t.keys) as (λ b. list_any (has_key k) t.keys ≡ b → (u : OpenTxn) × (Some t ≡ Some u) ×
+    (list_any (has_key k) u.keys ≡ true)) [
       | true ↦ λ is. (t, refl, is)
       | false ↦ λ is. not_none i (first_from k 0 t.keys) e (first_none k 0 t.keys is)
     ] refl
@@ -348,10 +387,12 @@ not_true false e = refl
 abbrev keeps_out : Xid → List Key → Key × Xid → Bool
 keeps_out x ks k = not (same_xid k.1 x) && list_any (eq_by_cmp key_cmp k.0) ks
 
-out_from_blocked : (holds : Key → Option Hold) (x : Xid) (ks : List Key) (ts : List OpenTxn) → Holds holds ts → (p : Key × Xid) → IsBlocked holds x ks p → IsIn p (kept_out x ks ts)
+out_from_blocked : (holds : Key → Option Hold) (x : Xid) (ks : List Key) (ts : List OpenTxn) → Holds holds ts → (p : Key × Xid) →
+    IsBlocked holds x ks p → IsIn p (kept_out x ks ts)
 out_from_blocked holds x ks ts h p b =
     let first : change_in p.0 (open_of b.hold.holder ts) ≡ Some b.hold.change =
-    h p.0 b.hold.holder ∙ ap (own_change b.hold.holder) b.held ∙ ap (λ c. cond c (Some b.hold.change) None) (xid_itself b.hold.holder) in
+    h p.0 b.hold.holder ∙ ap (own_change b.hold.holder) b.held ∙
+    ap (λ c. cond c (Some b.hold.change) None) (xid_itself b.hold.holder) in
     let t = change_is p.0 (open_of b.hold.holder ts) b.hold.change first in
     let id : p.1 ≡ t.0.xid = b.holder ∙ sym (found_id b.hold.holder ts t.0 t.1) in
     let pair : (p.0, t.0.xid) ≡ p = ap (λ i. (p.0, i)) (sym id) in
@@ -359,7 +400,8 @@ out_from_blocked holds x ks ts h p b =
     (subst (λ (q : Key × Xid). IsIn q (held_keys ts)) pair (held_in p.0 t.0 ts (open_in b.hold.holder ts t.0 t.1) t.2))
     (two (same_xid p.1 x) _ (ap (λ i. same_xid i x) b.holder ∙ b.other) (keys_in p.0 ks b.touched))
 
-blocked_from_out : (holds : Key → Option Hold) (x : Xid) (ks : List Key) (ts : List OpenTxn) → Holds holds ts → Apart ts → (p : Key × Xid) → IsIn p (kept_out x ks ts) → IsIn p (blocked holds x ks)
+blocked_from_out : (holds : Key → Option Hold) (x : Xid) (ks : List Key) (ts : List OpenTxn) → Holds holds ts → Apart ts →
+    (p : Key × Xid) → IsIn p (kept_out x ks ts) → IsIn p (blocked holds x ks)
 blocked_from_out holds x ks ts h a p among =
     let parts = in_filter (keeps_out x ks) p (held_keys ts) among in
     let held = in_held p ts parts.0 in
@@ -370,7 +412,8 @@ blocked_from_out holds x ks ts h a p among =
     let id : own.0.holder ≡ p.1 = own.2 ∙ sym held.holder in
     let pair : (p.0, own.0.holder) ≡ p = ap (λ i. (p.0, i)) id in
     subst (λ (q : Key × Xid). IsIn q (blocked holds x ks)) pair
-    (blocked_in holds x ks p.0 own.0 own.1 (ap (λ i. same_xid i x) id ∙ not_true (same_xid p.1 x) tests.0) (in_keys p.0 ks tests.1))
+    (blocked_in holds x ks p.0 own.0 own.1 (ap (λ i. same_xid i x) id ∙ not_true (same_xid p.1 x) tests.0)
+    (in_keys p.0 ks tests.1))
 
 single_blocked : (holds : Key → Option Hold) (x : Xid) (ks : List Key) → IsSingle (blocked holds x ks)
 single_blocked holds x ks p q p_in q_in same =
@@ -381,12 +424,15 @@ single_blocked holds x ks p q p_in q_in same =
     λ i. (same i, id i)
 
 -- the least key that keeps a change out, found by the change's own keys
-pub least_blocked : (holds : Key → Option Hold) (x : Xid) (ks : List Key) (ts : List OpenTxn) → Holds holds ts → Apart ts → least (blocked holds x ks) ≡ least (kept_out x ks ts)
+pub least_blocked : (holds : Key → Option Hold) (x : Xid) (ks : List Key) (ts : List OpenTxn) → Holds holds ts → Apart ts →
+    least (blocked holds x ks) ≡ least (kept_out x ks ts)
 least_blocked holds x ks ts h a =
-    least_same (blocked holds x ks) (kept_out x ks ts) (λ p among. out_from_blocked holds x ks ts h p (in_blocked holds x ks p among)) (blocked_from_out holds x ks ts h a) (single_blocked holds x ks)
+    least_same (blocked holds x ks) (kept_out x ks ts) (λ p among. out_from_blocked holds x ks ts h p
+    (in_blocked holds x ks p among)) (blocked_from_out holds x ks ts h a) (single_blocked holds x ks)
 
 -- where nothing keeps a change out, its keys are free or the transaction's own
-pub free_of_blocked : (holds : Key → Option Hold) (x : Xid) (ks : List Key) → least (blocked holds x ks) ≡ None → (k : Key) (h : Hold) → has_key k ks ≡ true → holds k ≡ Some h → same_xid h.holder x ≡ true
+pub free_of_blocked : (holds : Key → Option Hold) (x : Xid) (ks : List Key) → least (blocked holds x ks) ≡ None →
+    (k : Key) (h : Hold) → has_key k ks ≡ true → holds k ≡ Some h → same_xid h.holder x ≡ true
 free_of_blocked holds x ks e k h among held =
     elim (same_xid h.holder x) as (λ b. same_xid h.holder x ≡ b → b ≡ true) [
       | true ↦ λ is. refl

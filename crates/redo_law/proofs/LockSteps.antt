@@ -40,19 +40,24 @@ taken_none holds h q = elim (holds q) as (λ o. option_or o None ≡ o) [
   | Some g ↦ refl
 ]
 
-take_twice : (o : Option Hold) (a b : Bool) (h : Hold) → option_or (option_or o (cond (a || false) (Some h) None)) (cond b (Some h) None) ≡ option_or o (cond (a || b) (Some h) None)
+take_twice : (o : Option Hold) (a b : Bool) (h : Hold) →
+    option_or (option_or o (cond (a || false) (Some h) None)) (cond b (Some h) None) ≡ option_or o (cond (a || b) (Some h) None)
 take_twice None true b h = refl
 take_twice None false b h = refl
 take_twice (Some g) a b h = refl
 
-pub taken_more : (holds after : Key → Option Hold) (k : Key) (ks : List Key) (h : Hold) → ((q : Key) → after q ≡ taken holds (k ∷ []) h q) → (q : Key) → taken after ks h q ≡ taken holds (k ∷ ks) h q
+pub taken_more : (holds after : Key → Option Hold) (k : Key) (ks : List Key) (h : Hold) →
+    ((q : Key) → after q ≡ taken holds (k ∷ []) h q) → (q : Key) → taken after ks h q ≡ taken holds (k ∷ ks) h q
 taken_more holds after k ks h is q =
-    ap (λ o. option_or o (cond (has_key q ks) (Some h) None)) (is q) ∙ take_twice (holds q) (eq_by_cmp key_cmp q k) (has_key q ks) h
+    ap (λ o. option_or o (cond (has_key q ks) (Some h) None)) (is q) ∙
+    take_twice (holds q) (eq_by_cmp key_cmp q k) (has_key q ks) h
 
 -- a key that is held stays with its holder
-pub taken_held : (holds : Key → Option Hold) (k : Key) (h : Hold) → is_some (holds k) ≡ true → (q : Key) → holds q ≡ taken holds (k ∷ []) h q
+pub taken_held : (holds : Key → Option Hold) (k : Key) (h : Hold) → is_some (holds k) ≡ true → (q : Key) →
+    holds q ≡ taken holds (k ∷ []) h q
 taken_held holds k h some q =
-    elim (eq_by_cmp key_cmp q k) as (λ b. eq_by_cmp key_cmp q k ≡ b → holds q ≡ option_or (holds q) (cond (b || false) (Some h) None)) [
+    elim (eq_by_cmp key_cmp q k) as (λ b. eq_by_cmp key_cmp q k ≡ b →
+    holds q ≡ option_or (holds q) (cond (b || false) (Some h) None)) [
       | true ↦ λ is. elim (holds q) as (λ o. is_some o ≡ true → o ≡ option_or o (Some h)) [
         | None ↦ λ e. absurd (cc)
         | Some g ↦ λ e. refl
@@ -65,10 +70,12 @@ none_is None e = refl
 none_is (Some x) e = absurd (cc)
 
 -- a free key is taken
-pub taken_free : (holds : Key → Option Hold) (k : Key) (h : Hold) → is_some (holds k) ≡ false → (q : Key) → cond (is_eq (key_cmp k q)) (Some h) (holds q) ≡ taken holds (k ∷ []) h q
+pub taken_free : (holds : Key → Option Hold) (k : Key) (h : Hold) → is_some (holds k) ≡ false → (q : Key) →
+    cond (is_eq (key_cmp k q)) (Some h) (holds q) ≡ taken holds (k ∷ []) h q
 taken_free holds k h free q =
     ap (λ b. cond b (Some h) (holds q)) (key_sym k q) ∙
-    elim (eq_by_cmp key_cmp q k) as (λ b. eq_by_cmp key_cmp q k ≡ b → cond b (Some h) (holds q) ≡ option_or (holds q) (cond (b || false) (Some h) None)) [
+    elim (eq_by_cmp key_cmp q k) as (λ b. eq_by_cmp key_cmp q k ≡ b →
+    cond b (Some h) (holds q) ≡ option_or (holds q) (cond (b || false) (Some h) None)) [
       | true ↦ λ is. sym (ap (λ o. option_or o (Some h)) (ap holds (key_is q k is) ∙ none_is (holds k) free))
       | false ↦ λ is. sym (taken_none holds h q)
     ] refl
@@ -88,21 +95,27 @@ free_twice x n o true b false e = ap (λ d. cond (b && d) None o) e ∙ elim b a
 ]
 free_twice x n o false b c e = ap (λ d. cond (b && d) None o) e
 
-pub freed_at_more : (holds after : Key → Option Hold) (k : Key) (ks : List Key) (x : Xid) (n : ℕ) → ((q : Key) → after q ≡ freed_at holds (k ∷ []) x n q) → (q : Key) → freed_at after ks x n q ≡ freed_at holds (k ∷ ks) x n q
+pub freed_at_more : (holds after : Key → Option Hold) (k : Key) (ks : List Key) (x : Xid) (n : ℕ) →
+    ((q : Key) → after q ≡ freed_at holds (k ∷ []) x n q) → (q : Key) → freed_at after ks x n q ≡ freed_at holds (k ∷ ks) x n q
 freed_at_more holds after k ks x n is q =
-    ap (λ o. cond (has_key q ks && is_hold x n o) None o) (is q) ∙ free_twice x n (holds q) (eq_by_cmp key_cmp q k) (has_key q ks) (is_hold x n (holds q)) refl
+    ap (λ o. cond (has_key q ks && is_hold x n o) None o) (is q) ∙
+    free_twice x n (holds q) (eq_by_cmp key_cmp q k) (has_key q ks) (is_hold x n (holds q)) refl
 
-pub freed_at_other : (holds : Key → Option Hold) (k : Key) (x : Xid) (n : ℕ) → is_hold x n (holds k) ≡ false → (q : Key) → holds q ≡ freed_at holds (k ∷ []) x n q
+pub freed_at_other : (holds : Key → Option Hold) (k : Key) (x : Xid) (n : ℕ) → is_hold x n (holds k) ≡ false → (q : Key) →
+    holds q ≡ freed_at holds (k ∷ []) x n q
 freed_at_other holds k x n other q =
-    elim (eq_by_cmp key_cmp q k) as (λ b. eq_by_cmp key_cmp q k ≡ b → holds q ≡ cond ((b || false) && is_hold x n (holds q)) None (holds q)) [
+    elim (eq_by_cmp key_cmp q k) as (λ b. eq_by_cmp key_cmp q k ≡ b →
+    holds q ≡ cond ((b || false) && is_hold x n (holds q)) None (holds q)) [
       | true ↦ λ is. sym (ap (λ b. cond b None (holds q)) (ap (λ l. is_hold x n (holds l)) (key_is q k is) ∙ other))
       | false ↦ λ is. refl
     ] refl
 
-pub freed_at_own : (holds : Key → Option Hold) (k : Key) (x : Xid) (n : ℕ) → is_hold x n (holds k) ≡ true → (q : Key) → cond (is_eq (key_cmp k q)) None (holds q) ≡ freed_at holds (k ∷ []) x n q
+pub freed_at_own : (holds : Key → Option Hold) (k : Key) (x : Xid) (n : ℕ) → is_hold x n (holds k) ≡ true → (q : Key) →
+    cond (is_eq (key_cmp k q)) None (holds q) ≡ freed_at holds (k ∷ []) x n q
 freed_at_own holds k x n own q =
     ap (λ b. cond b None (holds q)) (key_sym k q) ∙
-    elim (eq_by_cmp key_cmp q k) as (λ b. eq_by_cmp key_cmp q k ≡ b → cond b None (holds q) ≡ cond ((b || false) && is_hold x n (holds q)) None (holds q)) [
+    elim (eq_by_cmp key_cmp q k) as (λ b. eq_by_cmp key_cmp q k ≡ b →
+    cond b None (holds q) ≡ cond ((b || false) && is_hold x n (holds q)) None (holds q)) [
       | true ↦ λ is. sym (ap (λ b. cond b None (holds q)) (ap (λ l. is_hold x n (holds l)) (key_is q k is) ∙ own))
       | false ↦ λ is. refl
     ] refl
@@ -114,13 +127,17 @@ free_both o true true = refl
 free_both o true false = refl
 free_both o false b = refl
 
-pub freed_one : (holds : Key → Option Hold) (k : Key) (q : Key) → cond (is_eq (key_cmp k q)) None (holds q) ≡ freed holds (k ∷ []) q
+pub freed_one : (holds : Key → Option Hold) (k : Key) (q : Key) →
+    cond (is_eq (key_cmp k q)) None (holds q) ≡ freed holds (k ∷ []) q
 freed_one holds k q = ap (λ b. cond b None (holds q)) (key_sym k q ∙ sym (or_no (eq_by_cmp key_cmp q k)))
 
-pub freed_more : (holds after : Key → Option Hold) (k : Key) (ks : List Key) → ((q : Key) → after q ≡ freed holds (k ∷ []) q) → (q : Key) → freed after ks q ≡ freed holds (k ∷ ks) q
+pub freed_more : (holds after : Key → Option Hold) (k : Key) (ks : List Key) → ((q : Key) → after q ≡ freed holds (k ∷ []) q) →
+    (q : Key) → freed after ks q ≡ freed holds (k ∷ ks) q
 freed_more holds after k ks is q =
-    ap (λ o. cond (has_key q ks) None o) (is q ∙ ap (λ b. cond b None (holds q)) (or_no (eq_by_cmp key_cmp q k))) ∙ free_both (holds q) (eq_by_cmp key_cmp q k) (has_key q ks)
+    ap (λ o. cond (has_key q ks) None o) (is q ∙ ap (λ b. cond b None (holds q)) (or_no (eq_by_cmp key_cmp q k))) ∙
+    free_both (holds q) (eq_by_cmp key_cmp q k) (has_key q ks)
 
-pub freed_each_more : (holds after : Key → Option Hold) (ks : List Key) (kss : List (List Key)) → ((q : Key) → after q ≡ freed holds ks q) → (q : Key) → freed_each after kss q ≡ freed_each holds (ks ∷ kss) q
+pub freed_each_more : (holds after : Key → Option Hold) (ks : List Key) (kss : List (List Key)) →
+    ((q : Key) → after q ≡ freed holds ks q) → (q : Key) → freed_each after kss q ≡ freed_each holds (ks ∷ kss) q
 freed_each_more holds after ks kss is q =
     ap (λ o. cond (list_any (has_key q) kss) None o) (is q) ∙ free_both (holds q) (has_key q ks) (list_any (has_key q) kss)

@@ -53,20 +53,26 @@ closed_none x (t ∷ ts) e =
 
 -- ---- which one an id names then
 
-pub open_after_push : (y : Xid) (ts : List OpenTxn) (t : OpenTxn) → open_of y (ts ++ t ∷ []) ≡ option_or (open_of y ts) (cond (same_xid t.xid y) (Some t) None)
+pub open_after_push : (y : Xid) (ts : List OpenTxn) (t : OpenTxn) →
+    open_of y (ts ++ t ∷ []) ≡ option_or (open_of y ts) (cond (same_xid t.xid y) (Some t) None)
 open_after_push y [] t = refl
 open_after_push y (u ∷ us) t =
-    elim (same_xid u.xid y) as (λ b. cond b (Some u) (open_of y (us ++ t ∷ [])) ≡ option_or (cond b (Some u) (open_of y us)) (cond (same_xid t.xid y) (Some t) None)) [
+    elim (same_xid u.xid y) as (λ b. cond b (Some u) (open_of y (us ++ t ∷ [])) ≡
+    option_or (cond b (Some u) (open_of y us)) (cond (same_xid t.xid y) (Some t) None)) [
       | true ↦ refl
       | false ↦ open_after_push y us t
     ]
 
 -- at the transaction that is changed
-pub open_changed : (f : OpenTxn → OpenTxn) → Keeps f → (x : Xid) (ts : List OpenTxn) → open_of x (with_open f x ts) ≡ option_map f (open_of x ts)
+pub open_changed : (f : OpenTxn → OpenTxn) → Keeps f → (x : Xid) (ts : List OpenTxn) →
+    open_of x (with_open f x ts) ≡ option_map f (open_of x ts)
 open_changed f keeps x [] = refl
 open_changed f keeps x (t ∷ ts) =
-    elim (same_xid t.xid x) as (λ b. same_xid t.xid x ≡ b → cond (same_xid (cond b (f t) t).xid x) (Some (cond b (f t) t)) (open_of x (with_open f x ts)) ≡ option_map f (cond b (Some t) (open_of x ts))) [
-      | true ↦ λ is. ap (λ i. cond (same_xid i x) (Some (f t)) (open_of x (with_open f x ts))) (keeps t) ∙ ap (λ b. cond b (Some (f t)) (open_of x (with_open f x ts))) is
+    elim (same_xid t.xid x) as (λ b. same_xid t.xid x ≡ b →
+    cond (same_xid (cond b (f t) t).xid x) (Some (cond b (f t) t)) (open_of x (with_open f x ts)) ≡
+    option_map f (cond b (Some t) (open_of x ts))) [
+      | true ↦ λ is. ap (λ i. cond (same_xid i x) (Some (f t)) (open_of x (with_open f x ts))) (keeps t) ∙
+          ap (λ b. cond b (Some (f t)) (open_of x (with_open f x ts))) is
       | false ↦ λ is. ap (λ b. cond b (Some t) (open_of x (with_open f x ts))) is ∙ open_changed f keeps x ts
     ] refl
 
@@ -75,10 +81,13 @@ apart_ids : (i x y : Xid) → same_xid x y ≡ false → same_xid i x ≡ true �
 apart_ids i x y apart is = ap (λ j. same_xid j y) (xid_is i x is) ∙ apart
 
 -- at another
-pub open_beside_changed : (f : OpenTxn → OpenTxn) → Keeps f → (x y : Xid) → same_xid x y ≡ false → (ts : List OpenTxn) → open_of y (with_open f x ts) ≡ open_of y ts
+pub open_beside_changed : (f : OpenTxn → OpenTxn) → Keeps f → (x y : Xid) → same_xid x y ≡ false → (ts : List OpenTxn) →
+    open_of y (with_open f x ts) ≡ open_of y ts
 open_beside_changed f keeps x y apart [] = refl
 open_beside_changed f keeps x y apart (t ∷ ts) =
-    elim (same_xid t.xid x) as (λ b. same_xid t.xid x ≡ b → cond (same_xid (cond b (f t) t).xid y) (Some (cond b (f t) t)) (open_of y (with_open f x ts)) ≡ cond (same_xid t.xid y) (Some t) (open_of y ts)) [
+    elim (same_xid t.xid x) as (λ b. same_xid t.xid x ≡ b →
+    cond (same_xid (cond b (f t) t).xid y) (Some (cond b (f t) t)) (open_of y (with_open f x ts)) ≡
+    cond (same_xid t.xid y) (Some t) (open_of y ts)) [
       | true ↦ λ is.
           let other = apart_ids t.xid x y apart is in
           ap (λ i. cond (same_xid i y) (Some (f t)) (open_of y (with_open f x ts))) (keeps t)
@@ -91,7 +100,8 @@ open_beside_changed f keeps x y apart (t ∷ ts) =
 pub open_closed : (x : Xid) (ts : List OpenTxn) → open_of x (without_open x ts) ≡ None
 open_closed x [] = refl
 open_closed x (t ∷ ts) =
-    elim (same_xid t.xid x) as (λ b. same_xid t.xid x ≡ b → open_of x (cond (not b) (t ∷ without_open x ts) (without_open x ts)) ≡ None) [
+    elim (same_xid t.xid x) as (λ b. same_xid t.xid x ≡ b →
+    open_of x (cond (not b) (t ∷ without_open x ts) (without_open x ts)) ≡ None) [
       | true ↦ λ is. open_closed x ts
       | false ↦ λ is. ap (λ b. cond b (Some t) (open_of x (without_open x ts))) is ∙ open_closed x ts
     ] refl
@@ -99,8 +109,10 @@ open_closed x (t ∷ ts) =
 pub open_beside_closed : (x y : Xid) → same_xid x y ≡ false → (ts : List OpenTxn) → open_of y (without_open x ts) ≡ open_of y ts
 open_beside_closed x y apart [] = refl
 open_beside_closed x y apart (t ∷ ts) =
-    elim (same_xid t.xid x) as (λ b. same_xid t.xid x ≡ b → open_of y (cond (not b) (t ∷ without_open x ts) (without_open x ts)) ≡ cond (same_xid t.xid y) (Some t) (open_of y ts)) [
-      | true ↦ λ is. open_beside_closed x y apart ts ∙ sym (ap (λ b. cond b (Some t) (open_of y ts)) (apart_ids t.xid x y apart is))
+    elim (same_xid t.xid x) as (λ b. same_xid t.xid x ≡ b →
+    open_of y (cond (not b) (t ∷ without_open x ts) (without_open x ts)) ≡ cond (same_xid t.xid y) (Some t) (open_of y ts)) [
+      | true ↦ λ is. open_beside_closed x y apart ts ∙ sym
+          (ap (λ b. cond b (Some t) (open_of y ts)) (apart_ids t.xid x y apart is))
       | false ↦ λ is. ap (λ o. cond (same_xid t.xid y) (Some t) o) (open_beside_closed x y apart ts)
     ] refl
 
@@ -110,7 +122,8 @@ pub apart_push : (ts : List OpenTxn) (t : OpenTxn) → Apart ts → open_of t.xi
 apart_push [] t a e = (refl, tt)
 apart_push (u ∷ us) t a e =
     let h = none_head (same_xid u.xid t.xid) u (open_of t.xid us) e in (
-      open_after_push u.xid us t ∙ ap (λ o. option_or o (cond (same_xid t.xid u.xid) (Some t) None)) a.0 ∙ ap (λ b. cond b (Some t) None) (xid_sym t.xid u.xid ∙ h.0),
+      open_after_push u.xid us t ∙ ap (λ o. option_or o (cond (same_xid t.xid u.xid) (Some t) None)) a.0 ∙
+          ap (λ b. cond b (Some t) None) (xid_sym t.xid u.xid ∙ h.0),
       apart_push us t a.1 h.1,
     )
 
@@ -118,10 +131,12 @@ none_map : {A B : Type 0} (f : A → B) (o : Option A) → o ≡ None → option
 none_map f o e = ap (option_map f) e
 
 -- an id that names none names none after a change
-pub none_changed : (f : OpenTxn → OpenTxn) → Keeps f → (x y : Xid) (ts : List OpenTxn) → open_of y ts ≡ None → open_of y (with_open f x ts) ≡ None
+pub none_changed : (f : OpenTxn → OpenTxn) → Keeps f → (x y : Xid) (ts : List OpenTxn) → open_of y ts ≡ None →
+    open_of y (with_open f x ts) ≡ None
 none_changed f keeps x y ts e =
     elim (same_xid x y) as (λ b. same_xid x y ≡ b → open_of y (with_open f x ts) ≡ None) [
-      | true ↦ λ is. ap (λ z. open_of y (with_open f z ts)) (xid_is x y is) ∙ open_changed f keeps y ts ∙ none_map f (open_of y ts) e
+      | true ↦ λ is. ap (λ z. open_of y (with_open f z ts)) (xid_is x y is) ∙ open_changed f keeps y ts ∙
+          none_map f (open_of y ts) e
       | false ↦ λ is. open_beside_changed f keeps x y is ts ∙ e
     ] refl
 
@@ -138,8 +153,10 @@ id_kept f keeps false t = refl
 
 pub apart_changed : (f : OpenTxn → OpenTxn) → Keeps f → (x : Xid) (ts : List OpenTxn) → Apart ts → Apart (with_open f x ts)
 apart_changed f keeps x [] a = tt
-apart_changed f keeps x (t ∷ ts) a =
-    (ap (λ i. open_of i (with_open f x ts)) (id_kept f keeps (same_xid t.xid x) t) ∙ none_changed f keeps x t.xid ts a.0, apart_changed f keeps x ts a.1)
+apart_changed f keeps x (t ∷ ts) a = (
+  ap (λ i. open_of i (with_open f x ts)) (id_kept f keeps (same_xid t.xid x) t) ∙ none_changed f keeps x t.xid ts a.0,
+  apart_changed f keeps x ts a.1,
+)
 
 pub apart_closed : (x : Xid) (ts : List OpenTxn) → Apart ts → Apart (without_open x ts)
 apart_closed x [] a = tt
@@ -164,7 +181,8 @@ abbrev pub is_bare : Option OpenTxn → Bool
 is_bare None = false
 is_bare (Some t) = is_empty t.keys
 
-none_survives : (x : Xid) (ts : List OpenTxn) → open_of x ts ≡ None → list_any (λ t. same_xid t.xid x && is_empty t.keys) ts ≡ false
+none_survives : (x : Xid) (ts : List OpenTxn) → open_of x ts ≡ None →
+    list_any (λ t. same_xid t.xid x && is_empty t.keys) ts ≡ false
 none_survives x [] e = refl
 none_survives x (t ∷ ts) e =
     let h = none_head (same_xid t.xid x) t (open_of x ts) e in
@@ -174,10 +192,13 @@ or_false : (b c : Bool) → c ≡ false → (b || c) ≡ b
 or_false true c e = refl
 or_false false c e = e
 
-pub nothing_is : (x : Xid) (ts : List OpenTxn) → Apart ts → list_any (λ t. same_xid t.xid x && is_empty t.keys) ts ≡ is_bare (open_of x ts)
+pub nothing_is : (x : Xid) (ts : List OpenTxn) → Apart ts →
+    list_any (λ t. same_xid t.xid x && is_empty t.keys) ts ≡ is_bare (open_of x ts)
 nothing_is x [] a = refl
 nothing_is x (t ∷ ts) a =
-    elim (same_xid t.xid x) as (λ b. same_xid t.xid x ≡ b → ((b && is_empty t.keys) || list_any (λ t. same_xid t.xid x && is_empty t.keys) ts) ≡ is_bare (cond b (Some t) (open_of x ts))) [
+    elim (same_xid t.xid x) as (λ b. same_xid t.xid x ≡ b →
+    ((b && is_empty t.keys) || list_any (λ t. same_xid t.xid x && is_empty t.keys) ts) ≡
+    is_bare (cond b (Some t) (open_of x ts))) [
       | true ↦ λ is. or_false (is_empty t.keys) _ (none_survives x ts (ap (λ i. open_of i ts) (sym (xid_is t.xid x is)) ∙ a.0))
       | false ↦ λ is. nothing_is x ts a.1
     ] refl

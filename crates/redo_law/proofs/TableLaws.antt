@@ -40,7 +40,8 @@ pub record Located (t : Table) (x : Xid) (start : Pos) : Type 0 where
   pub found : open_of x (txns_of t) ≡ Some (opened (start, txn))
   pub id : txn.xid ≡ x
 
-located_as : (t : Table) (x : Xid) (start : Pos) → IsTable t → (o : Option OpenTxn) → open_of x (txns_of t) ≡ o → option_map (λ u. u.start) o ≡ Some start → Located t x start
+located_as : (t : Table) (x : Xid) (start : Pos) → IsTable t → (o : Option OpenTxn) → open_of x (txns_of t) ≡ o →
+    option_map (λ u. u.start) o ≡ Some start → Located t x start
 located_as t x start h None e is = absurd (cc)
 located_as t x start h (Some u) e is =
     let at : u.start ≡ start = some_is u.start start is in
@@ -65,7 +66,8 @@ some_mapped : (o : Option OpenTxn) → is_some (option_map (λ u. u.start) o) �
 some_mapped None = refl
 some_mapped (Some u) = refl
 
-pub is_there : (t : Table) (x : Xid) → IsTable t → is_some (tree.get xid_cmp t.xids x) ≡ list_any (λ u. same_xid u.xid x) (txns_of t)
+pub is_there : (t : Table) (x : Xid) → IsTable t → is_some (tree.get xid_cmp t.xids x) ≡
+    list_any (λ u. same_xid u.xid x) (txns_of t)
 is_there t x h = ap is_some (h.ids x) ∙ some_mapped (open_of x (txns_of t)) ∙ sym (any_open x (txns_of t))
 
 none_is : {A : Type 0} (o : Option A) → is_some o ≡ false → o ≡ None
@@ -77,11 +79,15 @@ not_there x ts e = none_is (open_of x ts) (sym (any_open x ts) ∙ e)
 
 -- ---- one more transaction
 
-pub start_list : (t : Table) (es : List (Pos × Open)) (at : Pos) (o : Open) → BeganBefore at (txns_of t) → es ≡ insert_entry pos_cmp t.txns.entries at o → opened_all es ≡ txns_of t ++ opened (at, o) ∷ []
+pub start_list : (t : Table) (es : List (Pos × Open)) (at : Pos) (o : Open) → BeganBefore at (txns_of t) →
+    es ≡ insert_entry pos_cmp t.txns.entries at o → opened_all es ≡ txns_of t ++ opened (at, o) ∷ []
 start_list t es at o before is = ap opened_all is ∙ inserted_last at o t.txns.entries before
 
-pub start_table : (t u : Table) (at : Pos) (o : Open) → o.keys ≡ [] → IsTable t → BeganBefore at (txns_of t) → open_of o.xid (txns_of t) ≡ None → u.txns.entries ≡ insert_entry pos_cmp t.txns.entries at o →
-    tree.IsOrdered pos_cmp u.txns → ((y : Xid) → tree.get xid_cmp u.xids y ≡ cond (is_at (xid_cmp o.xid) y) (Some at) (tree.get xid_cmp t.xids y)) → u.locks ≡ t.locks → u.survivors ≡ t.survivors → IsTable u
+pub start_table : (t u : Table) (at : Pos) (o : Open) → o.keys ≡ [] → IsTable t → BeganBefore at (txns_of t) →
+    open_of o.xid (txns_of t) ≡ None → u.txns.entries ≡ insert_entry pos_cmp t.txns.entries at o →
+    tree.IsOrdered pos_cmp u.txns → ((y : Xid) → tree.get xid_cmp u.xids y ≡
+    cond (is_at (xid_cmp o.xid) y) (Some at) (tree.get xid_cmp t.xids y)) → u.locks ≡ t.locks →
+    u.survivors ≡ t.survivors → IsTable u
 start_table t u at o bare h before fresh is ordered ids locks survivors =
     let ts = txns_of t in
     let new = opened (at, o) in
@@ -89,7 +95,8 @@ start_table t u at o bare h before fresh is ordered ids locks survivors =
       ids = λ y. ids y ∙ ap (λ p. cond (is_at (xid_cmp o.xid) y) (Some at) p) (h.ids y) ∙ starts_push ts new fresh y;
       apart = apart_push ts new h.apart fresh;
       ordered = ordered;
-      holds = subst (λ (l : tree.BTreeMap Key Hold). Holds (tree.get key_cmp l) (ts ++ new ∷ [])) (sym locks) (holds_start (tree.get key_cmp t.locks) ts new bare h.holds fresh);
+      holds = subst (λ (l : tree.BTreeMap Key Hold). Holds (tree.get key_cmp l) (ts ++ new ∷ [])) (sym locks)
+          (holds_start (tree.get key_cmp t.locks) ts new bare h.holds fresh);
       count =
           let none : length o.keys ≡ 0 = ap length bare in
           let more = count_push ts new in
@@ -103,23 +110,30 @@ start_table t u at o bare h before fresh is ordered ids locks survivors =
 abbrev pub more_keys : List Key → Open → Open
 more_keys ks o = record o { keys = o.keys ++ ks ∷ [] }
 
-pub touch_list : (t : Table) (es : List (Pos × Open)) (x : Xid) (ks : List Key) (start : Pos) → IsTable t → (l : Located t x start) → es ≡ set_value (is_at (pos_cmp start)) t.txns.entries (more_keys ks l.txn) →
+pub touch_list : (t : Table) (es : List (Pos × Open)) (x : Xid) (ks : List Key) (start : Pos) → IsTable t →
+    (l : Located t x start) → es ≡ set_value (is_at (pos_cmp start)) t.txns.entries (more_keys ks l.txn) →
     opened_all es ≡ with_open (open_txn_after_change ks) x (txns_of t)
 touch_list t es x ks start h l is =
-    ap opened_all is ∙ set_changed (open_txn_after_change ks) x t.txns.entries (opened (start, l.txn)) (more_keys ks l.txn) h.ordered h.apart l.found refl
+    ap opened_all is ∙ set_changed (open_txn_after_change ks) x t.txns.entries (opened (start, l.txn)) (more_keys ks l.txn)
+    h.ordered h.apart l.found refl
 
-pub touch_table : (t u : Table) (x : Xid) (ks : List Key) (start : Pos) → IsTable t → (l : Located t x start) → least (kept_out x ks (txns_of t)) ≡ None →
-    u.txns.entries ≡ set_value (is_at (pos_cmp start)) t.txns.entries (more_keys ks l.txn) → tree.IsOrdered pos_cmp u.txns → u.xids ≡ t.xids →
-    ((q : Key) → tree.get key_cmp u.locks q ≡ taken (tree.get key_cmp t.locks) ks (record { holder = l.txn.xid; change = length l.txn.keys }) q) → u.survivors ≡ t.survivors + 1 → IsTable u
+pub touch_table : (t u : Table) (x : Xid) (ks : List Key) (start : Pos) → IsTable t → (l : Located t x start) →
+    least (kept_out x ks (txns_of t)) ≡ None →
+    u.txns.entries ≡ set_value (is_at (pos_cmp start)) t.txns.entries (more_keys ks l.txn) → tree.IsOrdered pos_cmp u.txns →
+    u.xids ≡ t.xids →
+    ((q : Key) → tree.get key_cmp u.locks q ≡ taken (tree.get key_cmp t.locks) ks
+    (record { holder = l.txn.xid; change = length l.txn.keys }) q) → u.survivors ≡ t.survivors + 1 → IsTable u
 touch_table t u x ks start h l free is ordered ids locks survivors =
     let ts = txns_of t in
     let was = opened (start, l.txn) in
     let holds = tree.get key_cmp t.locks in
     subst (Keeps u) (sym (touch_list t u.txns.entries x ks start h l is)) (record {
-      ids = λ y. ap (λ m. tree.get xid_cmp m y) ids ∙ h.ids y ∙ starts_changed (open_txn_after_change ks) (λ v. refl) (λ v. refl) x ts y;
+      ids = λ y. ap (λ m. tree.get xid_cmp m y) ids ∙ h.ids y ∙
+          starts_changed (open_txn_after_change ks) (λ v. refl) (λ v. refl) x ts y;
       apart = apart_changed (open_txn_after_change ks) (λ v. refl) x ts h.apart;
       ordered = ordered;
-      holds = holds_touch holds (tree.get key_cmp u.locks) x ks ts was l.found h.holds (λ k g. free_of_blocked holds x ks (least_blocked holds x ks ts h.holds h.apart ∙ free) k g)
+      holds = holds_touch holds (tree.get key_cmp u.locks) x ks ts was l.found h.holds
+          (λ k g. free_of_blocked holds x ks (least_blocked holds x ks ts h.holds h.apart ∙ free) k g)
           (λ q. locks q ∙ ap (λ i. taken holds ks (record { holder = i; change = length l.txn.keys }) q) l.id);
       count =
           let one : length (l.txn.keys ++ ks ∷ []) ≡ length l.txn.keys + 1 = length-append l.txn.keys (ks ∷ []) in
@@ -130,13 +144,17 @@ touch_table t u x ks start h l free is ordered ids locks survivors =
 
 -- ---- the latest change is taken back
 
-pub undo_list : (t : Table) (es : List (Pos × Open)) (x : Xid) (start : Pos) (w : Open) → IsTable t → (l : Located t x start) → w.xid ≡ l.txn.xid → w.keys ≡ take (length l.txn.keys - 1) l.txn.keys →
+pub undo_list : (t : Table) (es : List (Pos × Open)) (x : Xid) (start : Pos) (w : Open) → IsTable t → (l : Located t x start) →
+    w.xid ≡ l.txn.xid → w.keys ≡ take (length l.txn.keys - 1) l.txn.keys →
     es ≡ set_value (is_at (pos_cmp start)) t.txns.entries w → opened_all es ≡ with_open open_txn_after_undo x (txns_of t)
 undo_list t es x start w h l id keys is =
-    ap opened_all is ∙ set_changed open_txn_after_undo x t.txns.entries (opened (start, l.txn)) w h.ordered h.apart l.found (λ i. record { start = start; xid = id i; keys = keys i })
+    ap opened_all is ∙ set_changed open_txn_after_undo x t.txns.entries (opened (start, l.txn)) w h.ordered h.apart l.found
+    (λ i. record { start = start; xid = id i; keys = keys i })
 
-pub undo_table : (t u : Table) (x : Xid) (start : Pos) (w : Open) (count : ℕ) → IsTable t → (l : Located t x start) → GivesBack l.txn w (tree.get key_cmp t.locks) (tree.get key_cmp u.locks) count →
-    u.txns.entries ≡ set_value (is_at (pos_cmp start)) t.txns.entries w → tree.IsOrdered pos_cmp u.txns → u.xids ≡ t.xids → u.survivors + count ≡ t.survivors → IsTable u
+pub undo_table : (t u : Table) (x : Xid) (start : Pos) (w : Open) (count : ℕ) → IsTable t → (l : Located t x start) →
+    GivesBack l.txn w (tree.get key_cmp t.locks) (tree.get key_cmp u.locks) count →
+    u.txns.entries ≡ set_value (is_at (pos_cmp start)) t.txns.entries w → tree.IsOrdered pos_cmp u.txns → u.xids ≡ t.xids →
+    u.survivors + count ≡ t.survivors → IsTable u
 undo_table t u x start w count h l g is ordered ids survivors =
     let ts = txns_of t in
     let was = opened (start, l.txn) in
@@ -155,7 +173,8 @@ undo_table t u x start w count h l g is ordered ids survivors =
     })
 
 -- so many changes are there at least
-pub count_least : (t : Table) (x : Xid) (start : Pos) (w : Open) (count : ℕ) → IsTable t → (l : Located t x start) → length w.keys + count ≡ length l.txn.keys → count ≤ t.survivors
+pub count_least : (t : Table) (x : Xid) (start : Pos) (w : Open) (count : ℕ) → IsTable t → (l : Located t x start) →
+    length w.keys + count ≡ length l.txn.keys → count ≤ t.survivors
 count_least t x start w count h l e =
     let all = count_closed x (txns_of t) (opened (start, l.txn)) h.apart l.found in
     let before = h.count in
@@ -163,12 +182,16 @@ count_least t x start w count h l e =
 
 -- ---- a transaction ends
 
-pub close_list : (t : Table) (es : List (Pos × Open)) (x : Xid) (start : Pos) → IsTable t → (l : Located t x start) → es ≡ remove_entry (is_at (pos_cmp start)) t.txns.entries → opened_all es ≡ without_open x (txns_of t)
-close_list t es x start h l is = ap opened_all is ∙ removed_closed x t.txns.entries (opened (start, l.txn)) h.ordered h.apart l.found
+pub close_list : (t : Table) (es : List (Pos × Open)) (x : Xid) (start : Pos) → IsTable t → (l : Located t x start) →
+    es ≡ remove_entry (is_at (pos_cmp start)) t.txns.entries → opened_all es ≡ without_open x (txns_of t)
+close_list t es x start h l is = ap opened_all is ∙ removed_closed x t.txns.entries (opened (start, l.txn)) h.ordered
+    h.apart l.found
 
-pub close_table : (t u : Table) (x : Xid) (start : Pos) → IsTable t → (l : Located t x start) → u.txns.entries ≡ remove_entry (is_at (pos_cmp start)) t.txns.entries → tree.IsOrdered pos_cmp u.txns →
+pub close_table : (t u : Table) (x : Xid) (start : Pos) → IsTable t → (l : Located t x start) →
+    u.txns.entries ≡ remove_entry (is_at (pos_cmp start)) t.txns.entries → tree.IsOrdered pos_cmp u.txns →
     ((y : Xid) → tree.get xid_cmp u.xids y ≡ cond (is_at (xid_cmp x) y) None (tree.get xid_cmp t.xids y)) →
-    ((q : Key) → tree.get key_cmp u.locks q ≡ freed_each (tree.get key_cmp t.locks) l.txn.keys q) → u.survivors + length l.txn.keys ≡ t.survivors → IsTable u
+    ((q : Key) → tree.get key_cmp u.locks q ≡ freed_each (tree.get key_cmp t.locks) l.txn.keys q) →
+    u.survivors + length l.txn.keys ≡ t.survivors → IsTable u
 close_table t u x start h l is ordered ids locks survivors =
     let ts = txns_of t in
     let was = opened (start, l.txn) in
@@ -195,12 +218,14 @@ gives_none old new holds bare same = record {
 }
 
 -- the latest change is given back
-pub gives_one : (old new : Open) (ks : List Key) (holds after : Key → Option Hold) → old.keys ≡ new.keys ++ ks ∷ [] → new.xid ≡ old.xid →
+pub gives_one : (old new : Open) (ks : List Key) (holds after : Key → Option Hold) → old.keys ≡ new.keys ++ ks ∷ [] →
+    new.xid ≡ old.xid →
     ((q : Key) → after q ≡ freed_at holds ks old.xid (length new.keys) q) → GivesBack old new holds after 1
 gives_one old new ks holds after split id locks =
     let size : length old.keys ≡ length new.keys + 1 = ap length split ∙ length-append new.keys (ks ∷ []) in
     let less : length old.keys - 1 ≡ length new.keys = omega (arith, size) in
-    let back : take (length old.keys - 1) old.keys ≡ new.keys = ap (λ n. take n old.keys) less ∙ ap (take (length new.keys)) split ∙ take-append_seam new.keys (ks ∷ []) in
+    let back : take (length old.keys - 1) old.keys ≡ new.keys =
+    ap (λ n. take n old.keys) less ∙ ap (take (length new.keys)) split ∙ take-append_seam new.keys (ks ∷ []) in
     record {
       xid = id;
       keys = sym back;

@@ -9,7 +9,8 @@ use Rattle.redo_law.specs.declared.fault.AdmitFault.{AdmitFault}
 use Rattle.redo_law.specs.declared.fault.AdmitFault.TheVariants as faults
 use Rattle.redo_law.specs.Calls.{OnWant, may_want}
 
-four_faults : (a b c d : Bool) → may_want (first_fault ((a, laws.Twice) ∷ (b, laws.Names) ∷ (c, laws.Keys) ∷ (d, laws.Limit) ∷ [])) ≡ true
+four_faults : (a b c d : Bool) → may_want (first_fault ((a, laws.Twice) ∷ (b, laws.Names) ∷ (c, laws.Keys) ∷
+    (d, laws.Limit) ∷ [])) ≡ true
 four_faults true b c d = refl
 four_faults false true c d = refl
 four_faults false false true d = refl
@@ -18,7 +19,8 @@ four_faults false false false false = refl
 
 -- a table is copied before anything is looked for
 pub may_want_table : (tables : List TableRow) (t : TableRow) → may_want (table_fault tables t) ≡ true
-may_want_table tables t = four_faults (list_any (same_table t) tables) (has_bad_names t) (has_bad_keys t) (nat_le table_limit (length tables) || is_too_wide t)
+may_want_table tables t = four_faults (list_any (same_table t) tables) (has_bad_names t) (has_bad_keys t)
+    (nat_le table_limit (length tables) || is_too_wide t)
 
 -- what follows where memory wants
 pub wanted : {T P : Type 0} (r : Result T AdmitFault) → P → OnWant r P

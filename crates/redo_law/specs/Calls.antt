@@ -18,7 +18,16 @@ use Rattle.redo_law.specs.declared.fault.AdmitFault.TheVariants as faults
 
 -- the standing with which a law begins: no transaction is open
 abbrev pub standing_of : LawStart → Standing
-standing_of s = record { first = s.first; known = s.known; rec = s.rec; head = s.head; scn = s.scn; commit_scn = s.commit_scn; dictionary = s.dict; active = [] }
+standing_of s = record {
+  first = s.first;
+  known = s.known;
+  rec = s.rec;
+  head = s.head;
+  scn = s.scn;
+  commit_scn = s.commit_scn;
+  dictionary = s.dict;
+  active = [];
+}
 
 -- a record is admitted where there is no reason against it, and is else refused for the first
 abbrev pub Judges : {T : Type 0} → Option LawFault → Result T AdmitFault → Type 0
@@ -90,7 +99,8 @@ may_want (Some laws.OpenLimit) = true
 abbrev pub may_want_in : Header → ℕ → List Vector → Standing → Bool
 may_want_in h vec [] s = false
 may_want_in h vec (v ∷ vs) s =
-    (takes_memory s v && may_want (vector_fault h s v)) || (is_none (vector_fault h s v) && may_want_in h (vec + 1) vs (standing_after vec v s))
+    (takes_memory s v && may_want (vector_fault h s v)) ||
+    (is_none (vector_fault h s v) && may_want_in h (vec + 1) vs (standing_after vec v s))
 
 -- memory may want at a vector of the record, which may follow as a whole
 abbrev pub wants_memory : Standing → Entry → Bool

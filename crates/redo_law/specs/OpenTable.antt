@@ -52,4 +52,5 @@ pub record GivesBack (old new : Open) (holds after : Key → Option Hold) (count
   pub xid : new.xid ≡ old.xid
   pub keys : new.keys ≡ take (length old.keys - 1) old.keys
   pub counted : length new.keys + count ≡ length old.keys
-  pub freed : (ts : List OpenTxn) (start : Pos) → open_of old.xid ts ≡ Some (opened (start, old)) → Holds holds ts → Holds after (with_open open_txn_after_undo old.xid ts)
+  pub freed : (ts : List OpenTxn) (start : Pos) → open_of old.xid ts ≡ Some (opened (start, old)) → Holds holds ts →
+      Holds after (with_open open_txn_after_undo old.xid ts)

@@ -11,7 +11,16 @@ use Rattle.redo_law.specs.declared.state.State.{State}
 use Rattle.redo_law.specs.OpenTable.{txns_of, IsTable}
 
 abbrev pub seen : State → Standing
-seen s = record { first = s.first; known = s.known; rec = s.rec; head = s.head; scn = s.scn; commit_scn = s.commit_scn; dictionary = s.dict; active = txns_of s.table }
+seen s = record {
+  first = s.first;
+  known = s.known;
+  rec = s.rec;
+  head = s.head;
+  scn = s.scn;
+  commit_scn = s.commit_scn;
+  dictionary = s.dict;
+  active = txns_of s.table;
+}
 
 -- each of them began in this record or before
 abbrev pub BeganBy : ℕ → List OpenTxn → Type 0

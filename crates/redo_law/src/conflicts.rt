@@ -104,7 +104,8 @@ fn key_given(
     first: &[(u8, Value)],
     second: &[(u8, Value)],
 ) -> Result<Option<Key>, NoMemory>
-    ensures { IfOk result (λ key. one_or_none key ≡ key_by_columns table (cell_of (first.now ++ second.now)) (index, columns.now)) }
+    ensures { IfOk result (λ key. one_or_none key ≡ key_by_columns table (cell_of (first.now ++ second.now))
+        (index, columns.now)) }
 {
     match values_of(alloc, first, second, columns.items())? {
         None => Ok(None),

@@ -58,7 +58,8 @@ fn is_from(hold: Option<&Hold>, from: Hold) -> bool
 }
 
 fn free_key_of(locks: &mut BTreeMap<Key, Hold>, key: &Key, from: Hold)
-    ensures { (q : Key) → tree.get key_cmp locks.new q ≡ freed_at (tree.get key_cmp locks.old) (key.now ∷ []) from.holder from.change q }
+    ensures { (q : Key) → tree.get key_cmp locks.new q ≡
+        freed_at (tree.get key_cmp locks.old) (key.now ∷ []) from.holder from.change q }
 {
     if is_from(locks.get(key), from) {
         let _ = locks.remove(key);
@@ -67,7 +68,8 @@ fn free_key_of(locks: &mut BTreeMap<Key, Hold>, key: &Key, from: Hold)
 
 /// Frees the keys that were taken so.
 pub fn free_keys_of(locks: &mut BTreeMap<Key, Hold>, keys: &[Key], from: Hold)
-    ensures { (q : Key) → tree.get key_cmp locks.new q ≡ freed_at (tree.get key_cmp locks.old) keys.now from.holder from.change q }
+    ensures { (q : Key) → tree.get key_cmp locks.new q ≡
+        freed_at (tree.get key_cmp locks.old) keys.now from.holder from.change q }
 {
     let mut rest = keys;
     while let [first, others @ ..] = rest {

@@ -128,7 +128,9 @@ impl State {
 
     // A vector of the dictionary comes behind its end, or another before, or in a later log than the first.
     fn is_misplaced(&self, head: &Header, vector: &Vector) -> bool
-        ensures { result ≡ ((self.now.dict.finished && is_of_dictionary vector.now) || (not self.now.dict.finished && not (is_of_dictionary vector.now)) || (not self.now.dict.finished && not (head.now.seq == self.now.first))) }
+        ensures { result ≡ ((self.now.dict.finished && is_of_dictionary vector.now) ||
+            (not self.now.dict.finished && not (is_of_dictionary vector.now)) ||
+            (not self.now.dict.finished && not (head.now.seq == self.now.first))) }
     {
         let finished = self.dict.finished();
         let of_dictionary = is_dictionary(vector);
@@ -195,8 +197,10 @@ impl State {
     fn make(&mut self, xid: Xid, keys: Vec<Key>) -> Result<(), AdmitFault>
         requires { IsTable self.old.table }
         ensures table { OnOk result (IsTable self.new.table) }
-        ensures done { OnOk result (seen self.new ≡ with_active (with_open (open_txn_after_change keys.items) xid (seen self.old).active) (seen self.old)) }
-        ensures exact { Judges (option_or (lock_told (least (kept_out xid keys.items (seen self.old).active))) (count_fault (survivor_count (seen self.old)))) result }
+        ensures done { OnOk result (seen self.new ≡ with_active
+            (with_open (open_txn_after_change keys.items) xid (seen self.old).active) (seen self.old)) }
+        ensures exact { Judges (option_or (lock_told (least (kept_out xid keys.items (seen self.old).active)))
+            (count_fault (survivor_count (seen self.old)))) result }
         ensures left { Leaves self.old.dict self.new.dict result }
     {
         self.lock_refusal(xid, keys.as_slice())?;
@@ -232,7 +236,8 @@ impl State {
         ensures table { OnOk result (IsTable self.new.table) }
         ensures done { OnOk result (seen self.new ≡ standing_after vec (OfChange change.now) (seen self.old)) }
         ensures exact { Judges (own_fault (seen self.old) (OfChange change.now)) result }
-        ensures memory { OnWant result (IsTrue (takes_memory (seen self.old) (OfChange change.now) && may_want (own_fault (seen self.old) (OfChange change.now)))) }
+        ensures memory { OnWant result (IsTrue (takes_memory (seen self.old) (OfChange change.now) &&
+            may_want (own_fault (seen self.old) (OfChange change.now)))) }
         ensures left { Leaves self.old.dict self.new.dict result }
     {
         if self.is_open(change.xid) {
@@ -328,7 +333,8 @@ impl State {
         ensures table { OnOk result (IsTable self.new.table) }
         ensures done { OnOk result (seen self.new ≡ standing_after vec vector.now (seen self.old)) }
         ensures exact { Judges (own_fault (seen self.old) vector.now) result }
-        ensures memory { OnWant result (IsTrue (takes_memory (seen self.old) vector.now && may_want (own_fault (seen self.old) vector.now))) }
+        ensures memory { OnWant result (IsTrue (takes_memory (seen self.old) vector.now &&
+            may_want (own_fault (seen self.old) vector.now))) }
         ensures left { Leaves self.old.dict self.new.dict result }
     {
         match vector {
@@ -354,7 +360,8 @@ impl State {
         ensures same { OnOk result (self.new.rec ≡ self.old.rec) }
         ensures done { OnOk result (seen self.new ≡ standing_after vec vector.now (seen self.old)) }
         ensures exact { Judges (vector_fault head.now (seen self.old) vector.now) result }
-        ensures memory { OnWant result (IsTrue (takes_memory (seen self.old) vector.now && may_want (vector_fault head.now (seen self.old) vector.now))) }
+        ensures memory { OnWant result (IsTrue (takes_memory (seen self.old) vector.now &&
+            may_want (vector_fault head.now (seen self.old) vector.now))) }
         ensures left { Leaves self.old.dict self.new.dict result }
     {
         if self.is_misplaced(head, vector) {

@@ -216,7 +216,8 @@ fn has_none(changes: &[TouchedKeys]) -> bool
 // The transaction makes a change that touches these keys, and takes those that are free.
 fn take(txn: &mut Open, locks: &mut BTreeMap<Key, Hold>, keys: Vec<Key>) -> Result<(), NoMemory>
     ensures keys { OnOk result (txn.new ≡ record txn.old { keys = txn.old.keys ++ keys.items ∷ [] }) }
-    ensures locks { OnOk result ((q : Key) → tree.get key_cmp locks.new q ≡ taken (tree.get key_cmp locks.old) keys.items (record { holder = txn.old.xid; change = length txn.old.keys }) q) }
+    ensures locks { OnOk result ((q : Key) → tree.get key_cmp locks.new q ≡
+        taken (tree.get key_cmp locks.old) keys.items (record { holder = txn.old.xid; change = length txn.old.keys }) q) }
 {
     let hold = Hold {
         holder: txn.xid,

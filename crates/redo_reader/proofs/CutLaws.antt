@@ -17,21 +17,28 @@ use Rattle.redo_reader.specs.Steps.{with_raws, log_place_behind_all, GoesOn}
 
 -- ---- the place behind a cut
 
-walks_by : (h : Header) (k : ℕ) (p : LogPlace) (bytes : List ℕ) → ((q : LogPlace) (rest : List ℕ) → (cut_off h k q rest).place ≡ log_place_behind_all q (cut_off h k q rest).raws) → (r : Result (List ℕ × List ℕ) CutFault)
-    → (cut_or r p bytes (λ found rest. with_raw (raw_of_bytes h p found) (cut_off h k (past p found) rest))).place ≡ log_place_behind_all p (cut_or r p bytes (λ found rest. with_raw (raw_of_bytes h p found) (cut_off h k (past p found) rest))).raws
+walks_by : (h : Header) (k : ℕ) (p : LogPlace) (bytes : List ℕ) →
+    ((q : LogPlace) (rest : List ℕ) → (cut_off h k q rest).place ≡ log_place_behind_all q (cut_off h k q rest).raws) →
+    (r : Result (List ℕ × List ℕ) CutFault)
+    → (cut_or r p bytes (λ found rest. with_raw (raw_of_bytes h p found) (cut_off h k (past p found) rest))).place ≡
+    log_place_behind_all p (cut_or r p bytes (λ found rest. with_raw (raw_of_bytes h p found)
+    (cut_off h k (past p found) rest))).raws
 walks_by h k p bytes later (Ok x) = later (past p x.0) x.1
 walks_by h k p bytes later (Err fault) = refl
 
-pub walks : (h : Header) (k : ℕ) (p : LogPlace) (bytes : List ℕ) → (cut_off h k p bytes).place ≡ log_place_behind_all p (cut_off h k p bytes).raws
+pub walks : (h : Header) (k : ℕ) (p : LogPlace) (bytes : List ℕ) →
+    (cut_off h k p bytes).place ≡ log_place_behind_all p (cut_off h k p bytes).raws
 walks h zero p [] = refl
 walks h zero p (b ∷ bytes) = refl
 walks h (suc k) p bytes = walks_by h k p bytes (λ q rest. walks h k q rest) (first_record bytes)
 
-given_walks : (fault_told : Bool) (s : Stream) (piece : List ℕ) → s.fault_told ≡ fault_told → (cut_of_piece s piece).place ≡ log_place_behind_all s.place (cut_of_piece s piece).raws
+given_walks : (fault_told : Bool) (s : Stream) (piece : List ℕ) → s.fault_told ≡ fault_told →
+    (cut_of_piece s piece).place ≡ log_place_behind_all s.place (cut_of_piece s piece).raws
 given_walks true s piece is = rw is refl
 given_walks false s piece is = rw is (walks s.head (s.head.count - s.place.done) s.place (s.left ++ piece))
 
-pub stream_walks : (s : Stream) (piece : List ℕ) → (cut_of_piece s piece).place ≡ log_place_behind_all s.place (cut_of_piece s piece).raws
+pub stream_walks : (s : Stream) (piece : List ℕ) → (cut_of_piece s piece).place ≡
+    log_place_behind_all s.place (cut_of_piece s piece).raws
 stream_walks s piece = given_walks s.fault_told s piece refl
 
 -- ---- the first record of a cut
@@ -53,11 +60,13 @@ first_parts b x e =
     ap (λ (z : List ℕ × List ℕ). z.0 ++ z.1) (sym y) ∙ take-append-drop size b
 
 -- what is left when the first record is given
-pub record IsTaken (whole : LogCut) (h : Header) (k : ℕ) (p : LogPlace) (b : List ℕ) (raw : Raw) (ws : List Raw) (cause : Option CutFault) (c : LogCut) : Type 0 where
+pub record IsTaken (whole : LogCut) (h : Header) (k : ℕ) (p : LogPlace) (b : List ℕ) (raw : Raw) (ws : List Raw)
+    (cause : Option CutFault) (c : LogCut) : Type 0 where
   pub first : whole ≡ with_raw raw (cut_off h (k - 1) (past p raw.bytes) (drop (length raw.bytes) b))
   pub rest : cut_off h (k - 1) (past p raw.bytes) (drop (length raw.bytes) b) ≡ with_raws ws cause c
 
-taken_ok : (h : Header) (k : ℕ) (p : LogPlace) (b : List ℕ) (x : List ℕ × List ℕ) (raw : Raw) (ws : List Raw) (cause : Option CutFault) (c : LogCut) → first_record b ≡ Ok x
+taken_ok : (h : Header) (k : ℕ) (p : LogPlace) (b : List ℕ) (x : List ℕ × List ℕ) (raw : Raw) (ws : List Raw)
+    (cause : Option CutFault) (c : LogCut) → first_record b ≡ Ok x
     → with_raw (raw_of_bytes h p x.0) (cut_off h k (past p x.0) x.1) ≡ with_raws (raw ∷ ws) cause c
     → IsTaken (with_raw (raw_of_bytes h p x.0) (cut_off h k (past p x.0) x.1)) h (suc k) p b raw ws cause c
 taken_ok h k p b x raw ws cause c is e =
@@ -70,18 +79,25 @@ taken_ok h k p b x raw ws cause c is e =
     let ends : t.cause ≡ option_or cause c.cause = ap (λ (d : LogCut). d.cause) e in
     let tail : t ≡ with_raws ws cause c = (λ i. record { raws = rest i; place = place i; left = left i; cause = ends i }) in
     let bytes : raw.bytes ≡ x.0 = sym (ap (λ (r : Raw). r.bytes) first) in
-    let behind : drop (length raw.bytes) b ≡ x.1 = ap (λ (l : List ℕ). drop (length l) b) bytes ∙ ap (drop (length x.0)) (sym (first_parts b x is)) ∙ drop-append_seam x.0 x.1 in
+    let behind : drop (length raw.bytes) b ≡ x.1 = ap (λ (l : List ℕ). drop (length l) b) bytes ∙
+    ap (drop (length x.0)) (sym (first_parts b x is)) ∙ drop-append_seam x.0 x.1 in
     let less : suc k - 1 ≡ k = omega arith in
-    let same : cut_off h (suc k - 1) (past p raw.bytes) (drop (length raw.bytes) b) ≡ t = (λ i. cut_off h (less i) (past p (bytes i)) (behind i)) in
+    let same : cut_off h (suc k - 1) (past p raw.bytes) (drop (length raw.bytes) b) ≡ t =
+    (λ i. cut_off h (less i) (past p (bytes i)) (behind i)) in
     record { first = (λ i. with_raw (first i) (sym same i)); rest = same ∙ tail }
 
-taken_by : (h : Header) (k : ℕ) (p : LogPlace) (b : List ℕ) (r : Result (List ℕ × List ℕ) CutFault) (raw : Raw) (ws : List Raw) (cause : Option CutFault) (c : LogCut) → first_record b ≡ r
-    → cut_or r p b (λ found rest. with_raw (raw_of_bytes h p found) (cut_off h k (past p found) rest)) ≡ with_raws (raw ∷ ws) cause c
-    → IsTaken (cut_or r p b (λ found rest. with_raw (raw_of_bytes h p found) (cut_off h k (past p found) rest))) h (suc k) p b raw ws cause c
+taken_by : (h : Header) (k : ℕ) (p : LogPlace) (b : List ℕ) (r : Result (List ℕ × List ℕ) CutFault) (raw : Raw) (ws : List Raw)
+    (cause : Option CutFault) (c : LogCut) → first_record b ≡ r
+    → cut_or r p b (λ found rest. with_raw (raw_of_bytes h p found) (cut_off h k (past p found) rest)) ≡
+    with_raws (raw ∷ ws) cause c
+    → IsTaken (cut_or r p b (λ found rest. with_raw (raw_of_bytes h p found) (cut_off h k (past p found) rest))) h (suc k) p
+    b raw ws cause c
 taken_by h k p b (Ok x) raw ws cause c is e = taken_ok h k p b x raw ws cause c is e
-taken_by h k p b (Err fault) raw ws cause c is e = let none : [] ≡ raw ∷ (ws ++ c.raws) = ap (λ (d : LogCut). d.raws) e in absurd (cc)
+taken_by h k p b (Err fault) raw ws cause c is e = let none : [] ≡ raw ∷ (ws ++ c.raws) =
+    ap (λ (d : LogCut). d.raws) e in absurd (cc)
 
-pub taken : (h : Header) (k : ℕ) (p : LogPlace) (b : List ℕ) (raw : Raw) (ws : List Raw) (cause : Option CutFault) (c : LogCut) → cut_off h k p b ≡ with_raws (raw ∷ ws) cause c → IsTaken (cut_off h k p b) h k p b raw ws cause c
+pub taken : (h : Header) (k : ℕ) (p : LogPlace) (b : List ℕ) (raw : Raw) (ws : List Raw) (cause : Option CutFault) (c : LogCut) →
+    cut_off h k p b ≡ with_raws (raw ∷ ws) cause c → IsTaken (cut_off h k p b) h k p b raw ws cause c
 taken h zero p [] raw ws cause c e = let none : [] ≡ raw ∷ (ws ++ c.raws) = ap (λ (d : LogCut). d.raws) e in absurd (cc)
 taken h zero p (x ∷ b) raw ws cause c e = let none : [] ≡ raw ∷ (ws ++ c.raws) = ap (λ (d : LogCut). d.raws) e in absurd (cc)
 taken h (suc k) p b raw ws cause c e = taken_by h k p b (first_record b) raw ws cause c refl e
@@ -92,7 +108,8 @@ begun_by : (n : ℕ) (h : Header) (p : LogPlace) → cut_off h n p [] ≡ record
 begun_by zero h p = refl
 begun_by (suc n) h p = refl
 
-pub begun_settled : (h : Header) (rec at done : ℕ) → cut_of_piece (stream_at h rec at done) [] ≡ empty_cut (stream_at h rec at done)
+pub begun_settled : (h : Header) (rec at done : ℕ) → cut_of_piece (stream_at h rec at done) [] ≡
+    empty_cut (stream_at h rec at done)
 begun_settled h rec at done = begun_by (h.count - done) h (record { rec = rec; at = at; done = done })
 
 no_more : {X : Type 0} (xs ys : List X) → xs ≡ xs ++ ys → ys ≡ []
@@ -103,7 +120,8 @@ second_none : (c d e : Option CutFault) → c ≡ None → c ≡ option_or c d �
 second_none None d e is h = sym h
 second_none (Some f) d e is h = absurd (cc)
 
-pub fed_settled : (s : Stream) (piece : List ℕ) → GoesOn s piece → (cut_of_piece s piece).cause ≡ None → cut_of_piece (stream_after s piece) [] ≡ empty_cut (stream_after s piece)
+pub fed_settled : (s : Stream) (piece : List ℕ) → GoesOn s piece → (cut_of_piece s piece).cause ≡ None →
+    cut_of_piece (stream_after s piece) [] ≡ empty_cut (stream_after s piece)
 fed_settled s piece on none =
     let a : LogCut = cut_of_piece s piece in
     let d : LogCut = cut_of_piece (stream_after s piece) [] in

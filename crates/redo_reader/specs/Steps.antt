@@ -78,7 +78,8 @@ IsAt registry front waiting (Some log) = IsOpenLog registry front waiting log
 -- what the log with these bytes gives from the front on: what waits, and then what the cutter gives
 abbrev pub Continues : Place → List Raw → OpenLog → List ℕ → Type 0
 Continues front waiting log bytes =
-    cut_off log.cutter.head (log.cutter.head.count - front.done) (in_its_log front) (drop front.at bytes) ≡ with_raws waiting log.cause (cut_of_piece log.cutter (drop log.offset bytes))
+    cut_off log.cutter.head (log.cutter.head.count - front.done) (in_its_log front) (drop front.at bytes) ≡
+    with_raws waiting log.cause (cut_of_piece log.cutter (drop log.offset bytes))
 
 abbrev pub ContinuesIn : Place → List Raw → OpenLog → Option (List ℕ) → Type 0
 ContinuesIn front waiting log None = ⊤
@@ -89,11 +90,13 @@ ContinuesAt front waiting None found = ⊤
 ContinuesAt front waiting (Some log) found = ContinuesIn front waiting log found
 
 -- what is ahead of the place is what is ahead of the front
-pub record IsInStep (logs : ℕ → Option (List ℕ)) (registry : List LogEntry) (place front : Place) (waiting : List Raw) (log : Option OpenLog) : Type 0 where
+pub record IsInStep (logs : ℕ → Option (List ℕ)) (registry : List LogEntry) (place front : Place) (waiting : List Raw)
+    (log : Option OpenLog) : Type 0 where
   pub same : ahead logs registry place ≡ ahead logs registry front
   pub gives : ContinuesAt front waiting log (logs front.seq)
 
-pub record IsReading (known : Option (ℕ → Option (List ℕ))) (registry : List LogEntry) (place front : Place) (waiting : List Raw) (log : Option OpenLog) : Type 0 where
+pub record IsReading (known : Option (ℕ → Option (List ℕ))) (registry : List LogEntry) (place front : Place) (waiting : List Raw)
+    (log : Option OpenLog) : Type 0 where
   pub rec : front.rec ≡ place.rec
   pub at : IsAt registry front waiting log
   pub told : Told known (λ logs. AreToldBy logs registry → IsInStep logs registry place front waiting log)
@@ -102,7 +105,8 @@ pub record IsReading (known : Option (ℕ → Option (List ℕ))) (registry : Li
 abbrev pub EndsAt : Option (ℕ → Option (List ℕ)) → List LogEntry → Place → RedoEnd → Type 0
 EndsAt known registry place e = Told known (λ logs. AreToldBy logs registry → ahead logs registry place ≡ nothing_but (stop_of e))
 
-pub record IsSide (known : Option (ℕ → Option (List ℕ))) (registry : List LogEntry) (place front : Place) (waiting : List Raw) (log : Option OpenLog) (stop : Option RedoEnd) : Type 0 where
+pub record IsSide (known : Option (ℕ → Option (List ℕ))) (registry : List LogEntry) (place front : Place) (waiting : List Raw)
+    (log : Option OpenLog) (stop : Option RedoEnd) : Type 0 where
   pub reading : IsReading known registry place front waiting log
   pub ended : IfSome stop (EndsAt known registry place)
 
@@ -110,7 +114,12 @@ pub record IsSide (known : Option (ℕ → Option (List ℕ))) (registry : List 
 
 -- a log that is opened at this place in it
 abbrev pub open_log_at : LogEntry → Place → OpenLog
-open_log_at e front = record { cutter = stream_at e.head (front.rec + 1) front.at front.done; length = e.length; offset = front.at; cause = None }
+open_log_at e front = record {
+  cutter = stream_at e.head (front.rec + 1) front.at front.done;
+  length = e.length;
+  offset = front.at;
+  cause = None;
+}
 
 -- the log of the front, or the end
 pub record IsBegun (registry : List LogEntry) (front : Place) (log : OpenLog) : Type 0 where
@@ -130,7 +139,8 @@ BeginsBy registry front (begins.End e) = (logs : ℕ → Option (List ℕ)) → 
 
 -- whatever follows this piece is given by the stream behind it
 abbrev pub GoesOn : Stream → List ℕ → Type 0
-GoesOn s piece = (rest : List ℕ) → cut_of_piece s (piece ++ rest) ≡ joined_cut (cut_of_piece s piece) (cut_of_piece (stream_after s piece) rest)
+GoesOn s piece = (rest : List ℕ) → cut_of_piece s (piece ++ rest) ≡
+    joined_cut (cut_of_piece s piece) (cut_of_piece (stream_after s piece) rest)
 
 -- the log behind this piece, which gave these records
 pub record IsFed (old new : OpenLog) (piece : List ℕ) (raws : List Raw) : Type 0 where

@@ -52,16 +52,20 @@ fn step<A: Archive>(
 ) -> Result<Option<RedoEnd>, CutError>
     requires none { into_iter_items reading.old.waiting ≡ [] }
     requires block { 0 < length reading.old.block.items }
-    requires stands { IsReading (A.logs archive.old) registry.now reading.old.place reading.old.front (into_iter_items reading.old.waiting) reading.old.log }
-    ensures stands { IsReading (A.logs archive.new) registry.now reading.new.place reading.new.front (into_iter_items reading.new.waiting) reading.new.log }
+    requires stands { IsReading (A.logs archive.old) registry.now reading.old.place reading.old.front
+        (into_iter_items reading.old.waiting) reading.old.log }
+    ensures stands { IsReading (A.logs archive.new) registry.now reading.new.place reading.new.front
+        (into_iter_items reading.new.waiting) reading.new.log }
     ensures ends { IfOk result (λ end. IfSome end (EndsAt (A.logs archive.old) registry.now reading.old.place)) }
-    ensures nearer { IfOk result (λ end. end ≡ None → distance reading.new.front reading.new.log < distance reading.old.front reading.old.log) }
+    ensures nearer { IfOk result (λ end. end ≡ None → distance reading.new.front reading.new.log <
+        distance reading.old.front reading.old.log) }
     ensures place { reading.new.place ≡ reading.old.place }
     ensures none_lost { OnErr result (into_iter_items reading.new.waiting ≡ into_iter_items reading.old.waiting) }
     ensures block { 0 < length reading.new.block.items }
     ensures logs { A.logs archive.new ≡ A.logs archive.old }
     ensures failed { IsErrOf result ArchiveFaulted → Rose (A.faults archive.old) (A.faults archive.new) }
-    ensures none_passed_over { result ≢ Err ArchiveFaulted → NoneCounted A.counts_failures_alone (A.faults archive.old) (A.faults archive.new) }
+    ensures none_passed_over { result ≢ Err ArchiveFaulted →
+        NoneCounted A.counts_failures_alone (A.faults archive.old) (A.faults archive.new) }
     ensures count { A.faults archive.old ≤ A.faults archive.new }
 {
     let Some(log) = &mut reading.log else {
@@ -105,18 +109,23 @@ pub(crate) fn advance<A: Archive>(
     reading: &mut ReadingState,
 ) -> Result<Found, CutError>
     requires block { 0 < length reading.old.block.items }
-    requires stands { IsReading (A.logs archive.old) registry.now reading.old.place reading.old.front (into_iter_items reading.old.waiting) reading.old.log }
+    requires stands { IsReading (A.logs archive.old) registry.now reading.old.place reading.old.front
+        (into_iter_items reading.old.waiting) reading.old.log }
     ensures exact { Told (A.logs archive.old) (λ logs. AreToldBy logs registry.now →
-        IfOk result (λ found. GivesNext (cut_of found) (ahead logs registry.now reading.old.place) (ahead logs registry.now reading.new.place))) }
+        IfOk result (λ found. GivesNext (cut_of found) (ahead logs registry.now reading.old.place)
+        (ahead logs registry.now reading.new.place))) }
     ensures next { IfOk result (λ found. LeadsOn (cut_of found) reading.old.place reading.new.place) }
-    ensures stands { IsReading (A.logs archive.new) registry.now reading.new.place reading.new.front (into_iter_items reading.new.waiting) reading.new.log }
+    ensures stands { IsReading (A.logs archive.new) registry.now reading.new.place reading.new.front
+        (into_iter_items reading.new.waiting) reading.new.log }
     ensures block { 0 < length reading.new.block.items }
     ensures unchanged { OnErr result (reading.new.place ≡ reading.old.place) }
-    ensures waiting { FirstFound (into_iter_items reading.old.waiting) (into_iter_items reading.new.waiting) (archive.new ≡ archive.old) result }
+    ensures waiting { FirstFound (into_iter_items reading.old.waiting) (into_iter_items reading.new.waiting)
+        (archive.new ≡ archive.old) result }
     ensures none_lost { OnErr result (into_iter_items reading.new.waiting ≡ into_iter_items reading.old.waiting) }
     ensures logs { A.logs archive.new ≡ A.logs archive.old }
     ensures failed { IsErrOf result ArchiveFaulted → Rose (A.faults archive.old) (A.faults archive.new) }
-    ensures none_passed_over { result ≢ Err ArchiveFaulted → NoneCounted A.counts_failures_alone (A.faults archive.old) (A.faults archive.new) }
+    ensures none_passed_over { result ≢ Err ArchiveFaulted →
+        NoneCounted A.counts_failures_alone (A.faults archive.old) (A.faults archive.new) }
     ensures count { A.faults archive.old ≤ A.faults archive.new }
 {
     loop {

@@ -74,7 +74,8 @@ pub(crate) fn look_on<A: Archive>(
     ensures unchanged { OnErr result (log.new ≡ log.old) }
     ensures logs { A.logs archive.new ≡ A.logs archive.old }
     ensures failed { IsErrOf result ArchiveFaulted → Rose (A.faults archive.old) (A.faults archive.new) }
-    ensures none_passed_over { result ≢ Err ArchiveFaulted → NoneCounted A.counts_failures_alone (A.faults archive.old) (A.faults archive.new) }
+    ensures none_passed_over { result ≢ Err ArchiveFaulted →
+        NoneCounted A.counts_failures_alone (A.faults archive.old) (A.faults archive.new) }
     ensures count { A.faults archive.old ≤ A.faults archive.new }
 {
     if log.cause.is_some() {

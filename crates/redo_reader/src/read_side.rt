@@ -41,9 +41,17 @@ impl<A: Archive> Model for ReadSide<A> {
 
     ghost Value = { Reader A };
 
-    ghost view = { λ r. record { archive = r.archive; registry = r.registry; place = r.reading.place; waiting = into_iter_items r.reading.waiting; stop = option_map stop_of r.stop } };
+    ghost view = { λ r. record {
+      archive = r.archive;
+      registry = r.registry;
+      place = r.reading.place;
+      waiting = into_iter_items r.reading.waiting;
+      stop = option_map stop_of r.stop;
+    } };
 
-    ghost invariant = { λ r. (0 < length r.reading.block.items) × IsSide (A.logs r.archive) r.registry r.reading.place r.reading.front (into_iter_items r.reading.waiting) r.reading.log r.stop };
+    ghost invariant = { λ r. (0 < length r.reading.block.items) ×
+        IsSide (A.logs r.archive) r.registry r.reading.place r.reading.front (into_iter_items r.reading.waiting)
+        r.reading.log r.stop };
 }
 
 // The place that is taken for this one.
@@ -92,7 +100,13 @@ impl<A: Archive> ReadSide<A> {
         place: Place,
     ) -> Result<ReadSide<A>, (NoMemory, A)>
         requires room { place.rec + count_of registry < 2 ^ 63 }
-        ensures begun { IfOk result (λ r. r ≡ record { archive = archive; registry = registry; place = clamped_place registry place; waiting = []; stop = None }) }
+        ensures begun { IfOk result (λ r. r ≡ record {
+          archive = archive;
+          registry = registry;
+          place = clamped_place registry place;
+          waiting = [];
+          stop = None;
+        }) }
         ensures back { IfErr result (λ e. e.1 ≡ archive) }
     {
         let Ok(block) = vec![in alloc; 0u8; BLOCK] else {
@@ -117,7 +131,8 @@ impl<A: Archive> ReadSide<A> {
     pub fn cut(&mut self) -> Result<Cut, CutError>
         // The records that are ahead in order, and then what ends them, where the registered logs are the archive's.
         ensures exact { Told (A.logs self.old.archive) (λ logs. AreToldBy logs self.old.registry →
-            IfOk result (λ cut. GivesNext cut (ahead logs self.old.registry self.old.place) (ahead logs self.new.registry self.new.place))) }
+            IfOk result (λ cut. GivesNext cut (ahead logs self.old.registry self.old.place)
+            (ahead logs self.new.registry self.new.place))) }
         ensures next { IfOk result (λ cut. LeadsOn cut self.old.place self.new.place) }
         // An end is told for good, by an archive that tells nothing too.
         ensures told { IfOk result (λ cut. self.new.stop ≡ told_end cut) }
@@ -131,7 +146,8 @@ impl<A: Archive> ReadSide<A> {
         ensures logs { A.logs self.new.archive ≡ A.logs self.old.archive }
         ensures failed { IsErrOf result ArchiveFaulted → Rose (A.faults self.old.archive) (A.faults self.new.archive) }
         // Behind any other answer the archive has counted no failure.
-        ensures none_passed_over { result ≢ Err ArchiveFaulted → NoneCounted A.counts_failures_alone (A.faults self.old.archive) (A.faults self.new.archive) }
+        ensures none_passed_over { result ≢ Err ArchiveFaulted →
+            NoneCounted A.counts_failures_alone (A.faults self.old.archive) (A.faults self.new.archive) }
         ensures count { A.faults self.old.archive ≤ A.faults self.new.archive }
     {
         if let Some(end) = self.stop {

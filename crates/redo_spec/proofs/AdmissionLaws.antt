@@ -16,17 +16,20 @@ rec_after_all vec (v ∷ vs) s = rec_after_all (vec + 1) vs (standing_after vec 
 pub rec_after_record : (e : Entry) (s : Standing) → (record_after e s).rec ≡ s.rec + 1
 rec_after_record (h, r) s = rec_after_all 1 r.vectors (standing_at_record (h, r) s)
 
-pub fault_first : (o : Option LawFault) (left : Dictionary) (s : Standing) (h : History) (later : Admitted) → (admitted_or o left s h later).fault ≡ None → o ≡ None
+pub fault_first : (o : Option LawFault) (left : Dictionary) (s : Standing) (h : History) (later : Admitted) →
+    (admitted_or o left s h later).fault ≡ None → o ≡ None
 fault_first None left s h later e = refl
 fault_first (Some fault) left s h later e = absurd (cc)
 
-pub fault_later : (o : Option LawFault) (left : Dictionary) (s : Standing) (h : History) (later : Admitted) → (admitted_or o left s h later).fault ≡ None → later.fault ≡ None
+pub fault_later : (o : Option LawFault) (left : Dictionary) (s : Standing) (h : History) (later : Admitted) →
+    (admitted_or o left s h later).fault ≡ None → later.fault ≡ None
 fault_later None left s h later e = e
 fault_later (Some fault) left s h later e = absurd (cc)
 
 -- ---- fronts
 
-pub front_well : (xs ys : List Entry) (s : Standing) (h : History) → (admission s h (xs ++ ys)).fault ≡ None → (admission s h xs).fault ≡ None
+pub front_well : (xs ys : List Entry) (s : Standing) (h : History) → (admission s h (xs ++ ys)).fault ≡ None →
+    (admission s h xs).fault ≡ None
 front_well [] ys s h e = refl
 front_well (x ∷ xs) ys s h e =
     let s1 = record_after x s in
@@ -46,10 +49,12 @@ append_well (x ∷ xs) ys s h e =
     let later = fault_later (record_fault s x) (dictionary_left s x) s h (admission s1 h1 xs) e in
     ap (λ o. admitted_or o (dictionary_left s x) s h (admission s1 h1 (xs ++ ys))) fits
     ∙ append_well xs ys s1 h1 later
-    ∙ sym (ap (λ (a : Admitted). admission a.standing a.history ys) (ap (λ o. admitted_or o (dictionary_left s x) s h (admission s1 h1 xs)) fits))
+    ∙ sym (ap (λ (a : Admitted). admission a.standing a.history ys)
+    (ap (λ o. admitted_or o (dictionary_left s x) s h (admission s1 h1 xs)) fits))
 
 -- well records are all counted
-pub rec_well : (es : List Entry) (s : Standing) (h : History) → (admission s h es).fault ≡ None → (admission s h es).standing.rec ≡ s.rec + length es
+pub rec_well : (es : List Entry) (s : Standing) (h : History) → (admission s h es).fault ≡ None →
+    (admission s h es).standing.rec ≡ s.rec + length es
 rec_well [] s h e = omega arith
 rec_well (x ∷ xs) s h e =
     let s1 = record_after x s in
@@ -73,15 +78,19 @@ well_leaves s h (x ∷ xs) e =
     let h1 = history_after (s.rec + 1) x h in
     let fits = fault_first (record_fault s x) (dictionary_left s x) s h (admission s1 h1 xs) e in
     let later = fault_later (record_fault s x) (dictionary_left s x) s h (admission s1 h1 xs) e in
-    let here : admission s h (x ∷ xs) ≡ admission s1 h1 xs = ap (λ o. admitted_or o (dictionary_left s x) s h (admission s1 h1 xs)) fits in
+    let here : admission s h (x ∷ xs) ≡ admission s1 h1 xs =
+    ap (λ o. admitted_or o (dictionary_left s x) s h (admission s1 h1 xs)) fits in
     let rest = well_leaves s1 h1 xs later in (
       ap (λ (a : Admitted). a.standing) here ∙ rest.0,
       ap (λ (a : Admitted). a.history) here ∙ rest.1 ∙ ap (λ k. history_at k xs h1) (rec_after_record x s),
     )
 
-bad_or : (s : Standing) (h : History) (x : Entry) (xs : List Entry) (fault : LawFault) (o : Option LawFault) → record_fault s x ≡ o →
-    (admitted_or o (dictionary_left s x) s h (admission (record_after x s) (history_after (s.rec + 1) x h) xs)).fault ≡ Some fault →
-    ((admission (record_after x s) (history_after (s.rec + 1) x h) xs).fault ≡ Some fault → IsFirstBad (record_after x s) (history_after (s.rec + 1) x h) xs fault) →
+bad_or : (s : Standing) (h : History) (x : Entry) (xs : List Entry) (fault : LawFault) (o : Option LawFault) →
+    record_fault s x ≡ o →
+    (admitted_or o (dictionary_left s x) s h (admission (record_after x s) (history_after (s.rec + 1) x h) xs)).fault ≡
+    Some fault →
+    ((admission (record_after x s) (history_after (s.rec + 1) x h) xs).fault ≡ Some fault →
+    IsFirstBad (record_after x s) (history_after (s.rec + 1) x h) xs fault) →
     IsFirstBad s h (x ∷ xs) fault
 bad_or s h x xs fault (Some found) is e later =
     let here : admission s h (x ∷ xs) ≡ record { standing = s; history = h; fault = Some found; left = dictionary_left s x } =
@@ -101,7 +110,8 @@ bad_or s h x xs fault None is e later =
     let b = later e in
     let s1 = record_after x s in
     let h1 = history_after (s.rec + 1) x h in
-    let here : admission s h (x ∷ xs) ≡ admission s1 h1 xs = ap (λ o. admitted_or o (dictionary_left s x) s h (admission s1 h1 xs)) is in
+    let here : admission s h (x ∷ xs) ≡ admission s1 h1 xs =
+    ap (λ o. admitted_or o (dictionary_left s x) s h (admission s1 h1 xs)) is in
     record {
       front = x ∷ b.front;
       bad = b.bad;
@@ -115,7 +125,9 @@ bad_or s h x xs fault None is e later =
     }
 
 -- The first bad record is told.
-pub first_bad : (s : Standing) (h : History) (es : List Entry) (fault : LawFault) → (admission s h es).fault ≡ Some fault → IsFirstBad s h es fault
+pub first_bad : (s : Standing) (h : History) (es : List Entry) (fault : LawFault) → (admission s h es).fault ≡ Some fault →
+    IsFirstBad s h es fault
 first_bad s h [] fault e = absurd (cc)
 first_bad s h (x ∷ xs) fault e =
-    bad_or s h x xs fault (record_fault s x) refl e (λ later. first_bad (record_after x s) (history_after (s.rec + 1) x h) xs fault later)
+    bad_or s h x xs fault (record_fault s x) refl e (λ later. first_bad (record_after x s) (history_after (s.rec + 1) x h)
+    xs fault later)

@@ -15,18 +15,22 @@ bind_ok (Ok x) = refl
 bind_ok (Err e) = refl
 
 -- changes one after another
-pub effects-append : (tables : Tables) (ps qs : List Placed) → effects tables (ps ++ qs) ≡ (effects tables ps >>= λ after. effects after qs)
+pub effects-append : (tables : Tables) (ps qs : List Placed) →
+    effects tables (ps ++ qs) ≡ (effects tables ps >>= λ after. effects after qs)
 effects-append tables [] qs = refl
 effects-append tables ((at, c) ∷ ps) qs =
-    elim (effect tables c) as (λ r. (map_err (λ miss. record { pos = at; table = c.table; miss = miss }) r >>= λ after. effects after (ps ++ qs))
-    ≡ ((map_err (λ miss. record { pos = at; table = c.table; miss = miss }) r >>= λ after. effects after ps) >>= λ after. effects after qs)) [
+    elim (effect tables c) as (λ r. (map_err (λ miss. record { pos = at; table = c.table; miss = miss }) r >>=
+    λ after. effects after (ps ++ qs))
+    ≡ ((map_err (λ miss. record { pos = at; table = c.table; miss = miss }) r >>= λ after. effects after ps) >>=
+    λ after. effects after qs)) [
       | Ok after ↦ effects-append after ps qs
       | Err miss ↦ refl
     ]
 
 -- commits one after another, and one more
 pub commit_effects-snoc : (skips : List Skip) (n : ℕ) (tables : Tables) (cs : List Committed) (c : Committed) →
-    commit_effects skips n tables (cs ++ c ∷ []) ≡ (commit_effects skips n tables cs >>= λ after. commit_effect skips (n + length cs) after c)
+    commit_effects skips n tables (cs ++ c ∷ []) ≡ (commit_effects skips n tables cs >>=
+    λ after. commit_effect skips (n + length cs) after c)
 commit_effects-snoc skips n tables [] c =
     let here : n ≡ n + 0 = omega arith in
     bind_ok (commit_effect skips n tables c) ∙ ap (λ k. commit_effect skips k tables c) here
@@ -34,12 +38,14 @@ commit_effects-snoc skips n tables (d ∷ ds) c =
     let next : (n + 1) + length ds ≡ n + suc (length ds) = omega arith in
     elim (commit_effect skips n tables d) as (λ r. (r >>= λ after. commit_effects skips (n + 1) after (ds ++ c ∷ []))
     ≡ ((r >>= λ after. commit_effects skips (n + 1) after ds) >>= λ after. commit_effect skips (n + suc (length ds)) after c)) [
-      | Ok after ↦ commit_effects-snoc skips (n + 1) after ds c ∙ ap (λ k. commit_effects skips (n + 1) after ds >>= λ u. commit_effect skips k u c) next
+      | Ok after ↦ commit_effects-snoc skips (n + 1) after ds c ∙
+          ap (λ k. commit_effects skips (n + 1) after ds >>= λ u. commit_effect skips k u c) next
       | Err miss ↦ refl
     ]
 
 -- At one commit more the tables are those of before with its kept changes.
-pub tables_at-next : (b : Base) (skips : List Skip) (cs : Commits) (n : ℕ) (c : Committed) → cs.before ≤ b.n → b.n ≤ n → n < commit_count cs → get_or cs.made (n - cs.before) c ≡ c →
+pub tables_at-next : (b : Base) (skips : List Skip) (cs : Commits) (n : ℕ) (c : Committed) → cs.before ≤ b.n → b.n ≤ n →
+    n < commit_count cs → get_or cs.made (n - cs.before) c ≡ c →
     tables_at b skips cs (n + 1) ≡ (tables_at b skips cs n >>= λ tables. commit_effect skips n tables c)
 tables_at-next b skips cs n c first from here is =
     let k = n - b.n in

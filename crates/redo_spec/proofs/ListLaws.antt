@@ -7,11 +7,13 @@ use Rattle.rl_value.specs.Outcome.{is_empty}
 
 -- ---- each element
 
-pub all_append : {A : Type 0} (P : A → Type 0) (xs ys : List A) → AllByRecursion P xs → AllByRecursion P ys → AllByRecursion P (xs ++ ys)
+pub all_append : {A : Type 0} (P : A → Type 0) (xs ys : List A) → AllByRecursion P xs → AllByRecursion P ys →
+    AllByRecursion P (xs ++ ys)
 all_append P [] ys a b = b
 all_append P (x ∷ xs) ys a b = (a.0, all_append P xs ys a.1 b)
 
-all_cond : {A : Type 0} (P : A → Type 0) (b : Bool) (x : A) (xs : List A) → P x → AllByRecursion P xs → AllByRecursion P (cond b (x ∷ xs) xs)
+all_cond : {A : Type 0} (P : A → Type 0) (b : Bool) (x : A) (xs : List A) → P x → AllByRecursion P xs →
+    AllByRecursion P (cond b (x ∷ xs) xs)
 all_cond P true x xs here later = (here, later)
 all_cond P false x xs here later = later
 
@@ -19,7 +21,8 @@ pub all_filter : {A : Type 0} (P : A → Type 0) (p : A → Bool) (xs : List A) 
 all_filter P p [] a = tt
 all_filter P p (x ∷ xs) a = all_cond P (p x) x (filter p xs) a.0 (all_filter P p xs a.1)
 
-pub all_map : {A B : Type 0} (P : A → Type 0) (Q : B → Type 0) (f : A → B) → ((x : A) → P x → Q (f x)) → (xs : List A) → AllByRecursion P xs → AllByRecursion Q (map f xs)
+pub all_map : {A B : Type 0} (P : A → Type 0) (Q : B → Type 0) (f : A → B) → ((x : A) → P x → Q (f x)) → (xs : List A) →
+    AllByRecursion P xs → AllByRecursion Q (map f xs)
 all_map P Q f each [] a = tt
 all_map P Q f each (x ∷ xs) a = (each x a.0, all_map P Q f each xs a.1)
 
@@ -33,12 +36,14 @@ all_take P zero xs a = tt
 all_take P (suc n) [] a = tt
 all_take P (suc n) (x ∷ xs) a = (a.0, all_take P n xs a.1)
 
-pub all_weaker : {A : Type 0} (P Q : A → Type 0) → ((x : A) → P x → Q x) → (xs : List A) → AllByRecursion P xs → AllByRecursion Q xs
+pub all_weaker : {A : Type 0} (P Q : A → Type 0) → ((x : A) → P x → Q x) → (xs : List A) → AllByRecursion P xs →
+    AllByRecursion Q xs
 all_weaker P Q each [] a = tt
 all_weaker P Q each (x ∷ xs) a = (each x a.0, all_weaker P Q each xs a.1)
 
 -- what changes no element of these
-pub map_same : {A : Type 0} (P : A → Type 0) (f : A → A) → ((x : A) → P x → f x ≡ x) → (xs : List A) → AllByRecursion P xs → map f xs ≡ xs
+pub map_same : {A : Type 0} (P : A → Type 0) (f : A → A) → ((x : A) → P x → f x ≡ x) → (xs : List A) →
+    AllByRecursion P xs → map f xs ≡ xs
 map_same P f each [] a = refl
 map_same P f each (x ∷ xs) a = λ i. each x a.0 i ∷ map_same P f each xs a.1 i
 
@@ -52,7 +57,8 @@ pub filter_no : {A : Type 0} (p : A → Bool) (xs : List A) → AllByRecursion (
 filter_no p [] a = refl
 filter_no p (x ∷ xs) a = ap (λ b. cond b (x ∷ filter p xs) (filter p xs)) a.0 ∙ filter_no p xs a.1
 
-filter_cond : {A : Type 0} (p : A → Bool) (b : Bool) (x : A) (xs : List A) → filter p (cond b (x ∷ xs) xs) ≡ cond b (cond (p x) (x ∷ filter p xs) (filter p xs)) (filter p xs)
+filter_cond : {A : Type 0} (p : A → Bool) (b : Bool) (x : A) (xs : List A) →
+    filter p (cond b (x ∷ xs) xs) ≡ cond b (cond (p x) (x ∷ filter p xs) (filter p xs)) (filter p xs)
 filter_cond p true x xs = refl
 filter_cond p false x xs = refl
 
@@ -81,7 +87,8 @@ pub filter_fewer : {A : Type 0} (p : A → Bool) (xs : List A) → length (filte
 filter_fewer p [] = omega arith
 filter_fewer p (x ∷ xs) = fewer_cond (p x) x (filter p xs) (length xs) (filter_fewer p xs)
 
-head_cond : {A : Type 0} (p : A → Bool) (b : Bool) (x y : A) (xs ys : List A) → p x ≡ b → (xs ≡ y ∷ ys → p y ≡ true) → cond b (x ∷ xs) xs ≡ y ∷ ys → p y ≡ true
+head_cond : {A : Type 0} (p : A → Bool) (b : Bool) (x y : A) (xs ys : List A) → p x ≡ b → (xs ≡ y ∷ ys → p y ≡ true) →
+    cond b (x ∷ xs) xs ≡ y ∷ ys → p y ≡ true
 head_cond p true x y xs ys is later e = let same : x ≡ y = cc in ap p (sym same) ∙ is
 head_cond p false x y xs ys is later e = later e
 
@@ -100,7 +107,8 @@ or_second : (a b : Bool) → (a || b) ≡ false → b ≡ false
 or_second false b e = e
 or_second true b e = absurd (cc)
 
-any_cond : {A : Type 0} (r : A → Bool) (b : Bool) (x : A) (xs : List A) → r x ≡ false → list_any r xs ≡ false → list_any r (cond b (x ∷ xs) xs) ≡ false
+any_cond : {A : Type 0} (r : A → Bool) (b : Bool) (x : A) (xs : List A) → r x ≡ false → list_any r xs ≡ false →
+    list_any r (cond b (x ∷ xs) xs) ≡ false
 any_cond r true x xs here later = ap (λ c. c || list_any r xs) here ∙ later
 any_cond r false x xs here later = later
 
@@ -124,26 +132,30 @@ any_left p (x ∷ xs) = ap (λ b. p x || b) (any_left p xs) ∙ any_step (p x) x
 
 -- ---- sums and flat maps
 
-sum_cond : {A : Type 0} (f : A → ℕ) (b : Bool) (x : A) (xs : List A) (n : ℕ) → sum_by f xs ≤ n → sum_by f (cond b (x ∷ xs) xs) ≤ f x + n
+sum_cond : {A : Type 0} (f : A → ℕ) (b : Bool) (x : A) (xs : List A) (n : ℕ) → sum_by f xs ≤ n →
+    sum_by f (cond b (x ∷ xs) xs) ≤ f x + n
 sum_cond f true x xs n few = omega (arith, few, sum_by-cons f x xs)
 sum_cond f false x xs n few = omega (arith, few)
 
 -- fewer elements have no greater sum
 pub sum_filter : {A : Type 0} (f : A → ℕ) (p : A → Bool) (xs : List A) → sum_by f (filter p xs) ≤ sum_by f xs
 sum_filter f p [] = omega arith
-sum_filter f p (x ∷ xs) = let few = sum_cond f (p x) x (filter p xs) (sum_by f xs) (sum_filter f p xs) in omega (arith, few, sum_by-cons f x xs)
+sum_filter f p (x ∷ xs) = let few = sum_cond f (p x) x (filter p xs) (sum_by f xs) (sum_filter f p xs) in
+    omega (arith, few, sum_by-cons f x xs)
 
 append_none : {A : Type 0} (xs ys : List A) → xs ++ ys ≡ [] → (xs ≡ []) × (ys ≡ [])
 append_none [] ys e = (refl, e)
 append_none (x ∷ xs) ys e = absurd (cc)
 
-flat_cond : {A B : Type 0} (f : A → List B) (r : B → Bool) (b : Bool) (x : A) (xs : List A) → filter r (f x) ≡ [] → filter r (flat_map f xs) ≡ [] →
+flat_cond : {A B : Type 0} (f : A → List B) (r : B → Bool) (b : Bool) (x : A) (xs : List A) → filter r (f x) ≡ [] →
+    filter r (flat_map f xs) ≡ [] →
     filter r (flat_map f (cond b (x ∷ xs) xs)) ≡ []
 flat_cond f r true x xs here later = filter-append r (f x) (flat_map f xs) ∙ (λ i. here i ++ later i)
 flat_cond f r false x xs here later = later
 
 -- where nothing passes of what the elements give, nothing does of what fewer elements give
-pub flat_filter : {A B : Type 0} (f : A → List B) (r : B → Bool) (p : A → Bool) (xs : List A) → filter r (flat_map f xs) ≡ [] → filter r (flat_map f (filter p xs)) ≡ []
+pub flat_filter : {A B : Type 0} (f : A → List B) (r : B → Bool) (p : A → Bool) (xs : List A) → filter r (flat_map f xs) ≡ [] →
+    filter r (flat_map f (filter p xs)) ≡ []
 flat_filter f r p [] e = refl
 flat_filter f r p (x ∷ xs) e =
     let parts = append_none (filter r (f x)) (filter r (flat_map f xs)) (sym (filter-append r (f x) (flat_map f xs)) ∙ e) in

@@ -16,7 +16,8 @@ pub least_none : (ks : List (Key × Xid)) → least ks ≡ None → ks ≡ []
 least_none [] e = refl
 least_none (k ∷ ks) e = absurd (cc)
 
-filter_case : {A : Type 0} (p : A → Bool) (x : A) (xs : List A) (b : Bool) → p x ≡ b → cond b (x ∷ filter p xs) (filter p xs) ≡ [] →
+filter_case : {A : Type 0} (p : A → Bool) (x : A) (xs : List A) (b : Bool) → p x ≡ b →
+    cond b (x ∷ filter p xs) (filter p xs) ≡ [] →
     (filter p xs ≡ [] → AllByRecursion (λ y. p y ≡ false) xs) → (p x ≡ false) × AllByRecursion (λ y. p y ≡ false) xs
 filter_case p x xs true is none later = absurd (cc)
 filter_case p x xs false is none later = (is, later none)
@@ -31,7 +32,9 @@ option_map_none f (Some x) e = absurd (cc)
 
 -- a key that another open transaction holds is none that the change touches
 pub not_held : (s : Standing) (c : Change) → lock_fault s c ≡ None →
-    AllByRecursion (λ h. (not (same_xid h.1 c.xid) && list_any (eq_by_cmp key_cmp h.0) (conflict_keys s.dictionary.tables c)) ≡ false) (held_keys s.active)
+    AllByRecursion (λ h. (not (same_xid h.1 c.xid) && list_any (eq_by_cmp key_cmp h.0) (conflict_keys s.dictionary.tables c)) ≡
+    false) (held_keys s.active)
 not_held s c e =
-    filter_none (λ h. not (same_xid h.1 c.xid) && list_any (eq_by_cmp key_cmp h.0) (conflict_keys s.dictionary.tables c)) (held_keys s.active)
+    filter_none (λ h. not (same_xid h.1 c.xid) && list_any (eq_by_cmp key_cmp h.0) (conflict_keys s.dictionary.tables c))
+    (held_keys s.active)
     (least_none (contended s c) (option_map_none _ (least (contended s c)) e))

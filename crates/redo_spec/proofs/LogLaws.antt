@@ -56,7 +56,8 @@ tests_pass long size count x low high within some most =
     rw (a, b, c, d, e, f) refl
 
 pub cut_by : (bytes : List ℕ) (size count : ℕ) → number_in w32 0 bytes ≡ size → number_in w16 12 bytes ≡ count →
-    15 ≤ size → size ≤ 65536 → size ≤ length bytes → 1 ≤ count → count ≤ 255 → first_record bytes ≡ Ok (take size bytes, drop size bytes)
+    15 ≤ size → size ≤ 65536 → size ≤ length bytes → 1 ≤ count → count ≤ 255 →
+    first_record bytes ≡ Ok (take size bytes, drop size bytes)
 cut_by bytes size count is_size is_count low high within some most =
     ap (λ (s : ℕ). refused_by (first_fault (
     (nat_lt (length bytes) 4, cuts.Truncated)
@@ -82,12 +83,17 @@ cut_first r rest ok =
     let body = some_body r.vectors ok.some in
     let short = ok.size in
     let most = ok.most in
-    let long : length (record_bytes r ++ rest) ≡ size + length rest = length-append (record_bytes r) rest ∙ ap (λ n. n + length rest) (record_length r) in
+    let long : length (record_bytes r ++ rest) ≡ size + length rest =
+    length-append (record_bytes r) rest ∙ ap (λ n. n + length rest) (record_length r) in
     let is_size : number_in w32 0 (record_bytes r ++ rest) ≡ size = from_be_bytes-to_be_bytes_4 size (omega (arith, short)) in
-    let is_count : number_in w16 12 (record_bytes r ++ rest) ≡ length r.vectors = from_be_bytes-to_be_bytes_2 (length r.vectors) (omega (arith, most)) in
-    let taken : take size (record_bytes r ++ rest) ≡ record_bytes r = ap (λ n. take n (record_bytes r ++ rest)) (sym (record_length r)) ∙ take-append_seam (record_bytes r) rest in
-    let left : drop size (record_bytes r ++ rest) ≡ rest = ap (λ n. drop n (record_bytes r ++ rest)) (sym (record_length r)) ∙ drop-append_seam (record_bytes r) rest in
-    cut_by (record_bytes r ++ rest) size (length r.vectors) is_size is_count (omega (arith, body)) short (omega (arith, long)) ok.some most
+    let is_count : number_in w16 12 (record_bytes r ++ rest) ≡ length r.vectors =
+    from_be_bytes-to_be_bytes_2 (length r.vectors) (omega (arith, most)) in
+    let taken : take size (record_bytes r ++ rest) ≡ record_bytes r =
+    ap (λ n. take n (record_bytes r ++ rest)) (sym (record_length r)) ∙ take-append_seam (record_bytes r) rest in
+    let left : drop size (record_bytes r ++ rest) ≡ rest =
+    ap (λ n. drop n (record_bytes r ++ rest)) (sym (record_length r)) ∙ drop-append_seam (record_bytes r) rest in
+    cut_by (record_bytes r ++ rest) size (length r.vectors) is_size is_count (omega (arith, body)) short
+    (omega (arith, long)) ok.some most
     ∙ (λ i. Ok (taken i, left i))
 
 -- ---- the records of a log
@@ -115,7 +121,8 @@ header_again h rest ok =
     λ k. record { seq = seq k; dbid = dbid k; first = first k; next = next k; count = count k }
 
 -- a spelled header whose numbers are in order has no fault
-pub header_fits : (seq : ℕ) (h : Header) (rest : List ℕ) → IsHeader h → (h.seq == seq) ≡ true → 1 ≤ h.first → h.first < h.next → 1 ≤ h.count →
+pub header_fits : (seq : ℕ) (h : Header) (rest : List ℕ) → IsHeader h → (h.seq == seq) ≡ true → 1 ≤ h.first →
+    h.first < h.next → 1 ≤ h.count →
     header_fault seq (header_bytes h ++ rest) ≡ None
 header_fits seq h rest ok is_seq some rising counted =
     let bytes = header_bytes h ++ rest in
@@ -146,9 +153,11 @@ log_read read l ok =
     ∙ ap (λ n. records_in l.head n rest) ok.counted
     ∙ records_read read l.head l.records ok.each
 
-redo_read : SpelledIsRead → (seq : ℕ) (l : Log) → IsLog l → redo_from seq 0 ((seq, log_bytes l) ∷ []) ≡ record { entries = entries_of l; stop = Drained }
+redo_read : SpelledIsRead → (seq : ℕ) (l : Log) → IsLog l →
+    redo_from seq 0 ((seq, log_bytes l) ∷ []) ≡ record { entries = entries_of l; stop = Drained }
 redo_read read seq l ok =
-    ap (λ b. cond b (redo_after_records 0 (records_of (log_bytes l)) (redo_ended_by Drained)) (redo_ended_by (Gap seq (seq - 1)))) (same_number seq)
+    ap (λ b. cond b (redo_after_records 0 (records_of (log_bytes l)) (redo_ended_by Drained)) (redo_ended_by (Gap seq (seq - 1))))
+    (same_number seq)
     ∙ ap (λ r. redo_after_records 0 r (redo_ended_by Drained)) (log_read read l ok)
     ∙ ap (λ es. record { entries = es; stop = Drained }) (append-nil (entries_of l))
 
@@ -158,4 +167,5 @@ pub log_is_read : SpelledIsRead → (seq : ℕ) (l : Log) → IsLog l → header
 log_is_read read seq l ok fits =
     ap (λ o. fold_of_header o seq (log_bytes l)) fits
     ∙ ap (λ redo. fold_of_redo seq ((header_in (log_bytes l)).first - 1) redo.entries redo.stop) (redo_read read seq l ok)
-    ∙ ap (λ h. fold_of_redo seq (h.first - 1) (entries_of l) Drained) (header_again l.head (flat_map record_bytes l.records) ok.head)
+    ∙ ap (λ h. fold_of_redo seq (h.first - 1) (entries_of l) Drained)
+    (header_again l.head (flat_map record_bytes l.records) ok.head)

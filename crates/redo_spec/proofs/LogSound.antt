@@ -26,8 +26,10 @@ use Rattle.redo_spec.proofs.LogLaws.{cut_by}
 -- ---- the law of `redo_vec` by which a read record is spelled
 
 pub record ReadIsSpelled : Type 0 where
-  pub fits : (bytes : List ℕ) (r : RedoRec) → AreBytes bytes → first_record bytes ≡ Ok (bytes, []) → record_at bytes ≡ Ok r → IsRecord r
-  pub spelled : (bytes : List ℕ) (r : RedoRec) → AreBytes bytes → first_record bytes ≡ Ok (bytes, []) → record_at bytes ≡ Ok r → bytes ≡ record_bytes r
+  pub fits : (bytes : List ℕ) (r : RedoRec) → AreBytes bytes → first_record bytes ≡ Ok (bytes, []) →
+      record_at bytes ≡ Ok r → IsRecord r
+  pub spelled : (bytes : List ℕ) (r : RedoRec) → AreBytes bytes → first_record bytes ≡ Ok (bytes, []) → record_at bytes ≡ Ok r →
+      bytes ≡ record_bytes r
 
 -- ---- bytes
 
@@ -77,25 +79,32 @@ front8 (a ∷ b ∷ c ∷ d ∷ e ∷ f ∷ g ∷ []) = refl
 front8 (a ∷ b ∷ c ∷ d ∷ e ∷ f ∷ g ∷ h ∷ bytes) = refl
 
 -- a number that is read is spelled by the bytes that it is read from
-spelled2 : (at : ℕ) (bytes : List ℕ) → IsBytes bytes → at + 2 ≤ length bytes → take 2 (drop at bytes) ≡ be16 (number_in w16 at bytes)
+spelled2 : (at : ℕ) (bytes : List ℕ) → IsBytes bytes → at + 2 ≤ length bytes →
+    take 2 (drop at bytes) ≡ be16 (number_in w16 at bytes)
 spelled2 at bytes fits long =
-    sym (be_bytes_2 (take 2 (drop at bytes)) _ (omega (arith, long, length-take 2 (drop at bytes), length-drop at bytes)) (take_fits 2 (drop at bytes) (drop_fits at bytes fits)) refl)
+    sym (be_bytes_2 (take 2 (drop at bytes)) _ (omega (arith, long, length-take 2 (drop at bytes), length-drop at bytes))
+    (take_fits 2 (drop at bytes) (drop_fits at bytes fits)) refl)
     ∙ ap be16 (front2 (drop at bytes))
 
-spelled4 : (at : ℕ) (bytes : List ℕ) → IsBytes bytes → at + 4 ≤ length bytes → take 4 (drop at bytes) ≡ be32 (number_in w32 at bytes)
+spelled4 : (at : ℕ) (bytes : List ℕ) → IsBytes bytes → at + 4 ≤ length bytes →
+    take 4 (drop at bytes) ≡ be32 (number_in w32 at bytes)
 spelled4 at bytes fits long =
-    sym (be_bytes_4 (take 4 (drop at bytes)) _ (omega (arith, long, length-take 4 (drop at bytes), length-drop at bytes)) (take_fits 4 (drop at bytes) (drop_fits at bytes fits)) refl)
+    sym (be_bytes_4 (take 4 (drop at bytes)) _ (omega (arith, long, length-take 4 (drop at bytes), length-drop at bytes))
+    (take_fits 4 (drop at bytes) (drop_fits at bytes fits)) refl)
     ∙ ap be32 (front4 (drop at bytes))
 
-spelled8 : (at : ℕ) (bytes : List ℕ) → IsBytes bytes → at + 8 ≤ length bytes → take 8 (drop at bytes) ≡ be64 (number_in w64 at bytes)
+spelled8 : (at : ℕ) (bytes : List ℕ) → IsBytes bytes → at + 8 ≤ length bytes →
+    take 8 (drop at bytes) ≡ be64 (number_in w64 at bytes)
 spelled8 at bytes fits long =
-    sym (be_bytes_8 (take 8 (drop at bytes)) _ (omega (arith, long, length-take 8 (drop at bytes), length-drop at bytes)) (take_fits 8 (drop at bytes) (drop_fits at bytes fits)) refl)
+    sym (be_bytes_8 (take 8 (drop at bytes)) _ (omega (arith, long, length-take 8 (drop at bytes), length-drop at bytes))
+    (take_fits 8 (drop at bytes) (drop_fits at bytes fits)) refl)
     ∙ ap be64 (front8 (drop at bytes))
 
 -- ---- the header
 
 -- bytes that are spelled, and the next ones
-joined : (a b : ℕ) (bytes front next : List ℕ) → take a bytes ≡ front → take b (drop a bytes) ≡ next → take (a + b) bytes ≡ front ++ next
+joined : (a b : ℕ) (bytes front next : List ℕ) → take a bytes ≡ front → take b (drop a bytes) ≡ next →
+    take (a + b) bytes ≡ front ++ next
 joined a b bytes front next p q =
     let low : a ≤ a + b = omega arith in
     let first : take a (take (a + b) bytes) ≡ front = take-take a (a + b) bytes low ∙ p in
@@ -121,7 +130,8 @@ header_passed seq bytes e =
     let version = passed (not (number_in w16 4 bytes == 1)) heads.Version _ magic.1 in
     let thread = passed (not (number_in w16 6 bytes == 1)) heads.Thread _ version.1 in
     let sequence = passed (not (number_in w32 12 bytes == seq)) heads.Sequence _ thread.1 in
-    let range = passed (number_in w64 16 bytes == 0 || nat_le (number_in w64 24 bytes) (number_in w64 16 bytes)) heads.Range _ sequence.1 in
+    let range = passed (number_in w64 16 bytes == 0 || nat_le (number_in w64 24 bytes) (number_in w64 16 bytes)) heads.Range
+    _ sequence.1 in
     let count = passed (number_in w32 32 bytes == 0) heads.Records _ range.1 in
     let reserved = passed (not (number_in w32 36 bytes == 0)) heads.Reserved _ count.1 in
     record {
@@ -136,17 +146,25 @@ header_spelled : (bytes : List ℕ) → IsBytes bytes → Passed bytes → take 
 header_spelled bytes fits p =
     let long = p.long in
     let h = header_in bytes in
-    let to6 = joined 4 2 bytes (codes "SRL1") (be16 1) p.magic (spelled2 4 bytes fits (omega (arith, long)) ∙ ap be16 p.version) in
-    let to8 = joined 6 2 bytes (codes "SRL1" ++ be16 1) (be16 1) to6 (spelled2 6 bytes fits (omega (arith, long)) ∙ ap be16 p.thread) in
-    let to12 = joined 8 4 bytes (codes "SRL1" ++ be16 1 ++ be16 1) (be32 h.dbid) to8 (spelled4 8 bytes fits (omega (arith, long))) in
-    let to16 = joined 12 4 bytes (codes "SRL1" ++ be16 1 ++ be16 1 ++ be32 h.dbid) (be32 h.seq) to12 (spelled4 12 bytes fits (omega (arith, long))) in
-    let to24 = joined 16 8 bytes (codes "SRL1" ++ be16 1 ++ be16 1 ++ be32 h.dbid ++ be32 h.seq) (be64 h.first) to16 (spelled8 16 bytes fits (omega (arith, long))) in
+    let to6 = joined 4 2 bytes (codes "SRL1") (be16 1) p.magic
+    (spelled2 4 bytes fits (omega (arith, long)) ∙ ap be16 p.version) in
+    let to8 = joined 6 2 bytes (codes "SRL1" ++ be16 1) (be16 1) to6
+    (spelled2 6 bytes fits (omega (arith, long)) ∙ ap be16 p.thread) in
+    let to12 = joined 8 4 bytes (codes "SRL1" ++ be16 1 ++ be16 1) (be32 h.dbid) to8
+    (spelled4 8 bytes fits (omega (arith, long))) in
+    let to16 = joined 12 4 bytes (codes "SRL1" ++ be16 1 ++ be16 1 ++ be32 h.dbid) (be32 h.seq) to12
+    (spelled4 12 bytes fits (omega (arith, long))) in
+    let to24 = joined 16 8 bytes (codes "SRL1" ++ be16 1 ++ be16 1 ++ be32 h.dbid ++ be32 h.seq) (be64 h.first) to16
+    (spelled8 16 bytes fits (omega (arith, long))) in
     let to32 =
-    joined 24 8 bytes (codes "SRL1" ++ be16 1 ++ be16 1 ++ be32 h.dbid ++ be32 h.seq ++ be64 h.first) (be64 h.next) to24 (spelled8 24 bytes fits (omega (arith, long))) in
+    joined 24 8 bytes (codes "SRL1" ++ be16 1 ++ be16 1 ++ be32 h.dbid ++ be32 h.seq ++ be64 h.first) (be64 h.next) to24
+    (spelled8 24 bytes fits (omega (arith, long))) in
     let to36 =
-    joined 32 4 bytes (codes "SRL1" ++ be16 1 ++ be16 1 ++ be32 h.dbid ++ be32 h.seq ++ be64 h.first ++ be64 h.next) (be32 h.count) to32
+    joined 32 4 bytes (codes "SRL1" ++ be16 1 ++ be16 1 ++ be32 h.dbid ++ be32 h.seq ++ be64 h.first ++ be64 h.next)
+    (be32 h.count) to32
     (spelled4 32 bytes fits (omega (arith, long))) in
-    joined 36 4 bytes (codes "SRL1" ++ be16 1 ++ be16 1 ++ be32 h.dbid ++ be32 h.seq ++ be64 h.first ++ be64 h.next ++ be32 h.count) (be32 0) to36
+    joined 36 4 bytes (codes "SRL1" ++ be16 1 ++ be16 1 ++ be32 h.dbid ++ be32 h.seq ++ be64 h.first ++ be64 h.next ++
+    be32 h.count) (be32 0) to36
     (spelled4 36 bytes fits (omega (arith, long)) ∙ ap be32 p.reserved)
 
 below32 : (bytes : List ℕ) → IsBytes bytes → from_be_bytes w32 bytes < 2 ^ 32
@@ -166,7 +184,8 @@ header_fits bytes fits = record {
 
 -- ---- one record at the front
 
-took : {A : Type 0} (test : Bool) (fault : CutFault) (o : Option CutFault) (x y : A) → refused_by (cond test (Some fault) o) x ≡ Ok y → (test ≡ false) × (refused_by o x ≡ Ok y)
+took : {A : Type 0} (test : Bool) (fault : CutFault) (o : Option CutFault) (x y : A) →
+    refused_by (cond test (Some fault) o) x ≡ Ok y → (test ≡ false) × (refused_by o x ≡ Ok y)
 took false fault o x y e = (refl, e)
 took true fault o x y e = absurd (cc)
 
@@ -177,14 +196,16 @@ some_count : (k : ℕ) → (k == 0) ≡ false → 1 ≤ k
 some_count zero e = absurd (cc)
 some_count (suc k) e = omega arith
 
-cut_fits : (bytes : List ℕ) (size : ℕ) → 15 ≤ size → size ≤ 65536 → size ≤ length bytes → number_in w32 0 bytes ≡ size → 1 ≤ number_in w16 12 bytes → number_in w16 12 bytes ≤ 255 →
+cut_fits : (bytes : List ℕ) (size : ℕ) → 15 ≤ size → size ≤ 65536 → size ≤ length bytes → number_in w32 0 bytes ≡ size →
+    1 ≤ number_in w16 12 bytes → number_in w16 12 bytes ≤ 255 →
     first_record (take size bytes) ≡ Ok (take size bytes, [])
 cut_fits bytes size low high long is some few =
     let count : length (take size bytes) ≡ size = omega (arith, long, length-take size bytes) in
     let number : number_in w32 0 (take size bytes) ≡ size =
     sym (front4 (take size bytes)) ∙ ap (from_be_bytes w32) (take-take 4 size bytes (omega (arith, low))) ∙ front4 bytes ∙ is in
     let rest : 12 + (size - 12) ≡ size = omega (arith, low) in
-    let behind : drop 12 (take size bytes) ≡ take (size - 12) (drop 12 bytes) = ap (λ k. drop 12 (take k bytes)) (sym rest) ∙ drop-take 12 (size - 12) bytes in
+    let behind : drop 12 (take size bytes) ≡ take (size - 12) (drop 12 bytes) =
+    ap (λ k. drop 12 (take k bytes)) (sym rest) ∙ drop-take 12 (size - 12) bytes in
     let vectors : number_in w16 12 (take size bytes) ≡ number_in w16 12 bytes =
     ap (from_be_bytes w16) behind
     ∙ sym (front2 (take (size - 12) (drop 12 bytes)))
@@ -218,7 +239,8 @@ front_is bytes cut rest fits e =
     let counts = or_parts (number_in w16 12 bytes == 0) (nat_lt 255 (number_in w16 12 bytes)) d.0 in
     record {
       whole = subst (λ (c : List ℕ). first_record c ≡ Ok (c, [])) cut_is
-          (cut_fits bytes size (ltb-false size 15 limits.0) (ltb-false 65536 size limits.1) (ltb-false (length bytes) size c.0) refl
+          (cut_fits bytes size (ltb-false size 15 limits.0) (ltb-false 65536 size limits.1)
+          (ltb-false (length bytes) size c.0) refl
           (some_count (number_in w16 12 bytes) counts.0) (ltb-false 255 (number_in w16 12 bytes) counts.1));
       parts = sym (take-append-drop size bytes) ∙ (λ i. cut_is i ++ rest_is i);
       bytes_fit = subst IsBytes cut_is (take_fits size bytes fits);
@@ -232,30 +254,41 @@ record AreSpelled (count : ℕ) (bytes : List ℕ) (entries : List Entry) : Type
   parts : bytes ≡ flat_map record_bytes (map (λ e. e.1) entries)
   counted : count ≡ length entries
 
-decoded_sound : ReadIsSpelled → (h : Header) (count : ℕ) (bytes cut rest : List ℕ) (found : Result RedoRec Fault) → record_at cut ≡ found → IsFront bytes cut rest →
+decoded_sound : ReadIsSpelled → (h : Header) (count : ℕ) (bytes cut rest : List ℕ) (found : Result RedoRec Fault) →
+    record_at cut ≡ found → IsFront bytes cut rest →
     (decoded_or h found (records_in h count rest)).cause ≡ None →
-    ((records_in h count rest).cause ≡ None → AreSpelled count rest (records_in h count rest).entries) → AreSpelled (suc count) bytes (decoded_or h found (records_in h count rest)).entries
+    ((records_in h count rest).cause ≡ None → AreSpelled count rest (records_in h count rest).entries) →
+    AreSpelled (suc count) bytes (decoded_or h found (records_in h count rest)).entries
 decoded_sound law h count bytes cut rest (Err fault) is front e more = absurd (cc)
 decoded_sound law h count bytes cut rest (Ok r) is front e more =
     let are = are_bytes cut front.bytes_fit in
     let spelled = law.spelled cut r are front.whole is in
     let later = more e in
     let after = later.parts in
-    record { each = (law.fits cut r are front.whole is, later.each); parts = front.parts ∙ (λ i. spelled i ++ after i); counted = ap suc later.counted }
+    record {
+      each = (law.fits cut r are front.whole is, later.each);
+      parts = front.parts ∙ (λ i. spelled i ++ after i);
+      counted = ap suc later.counted;
+    }
 
-cut_sound : ReadIsSpelled → (h : Header) (count : ℕ) (bytes : List ℕ) (found : Result (List ℕ × List ℕ) CutFault) → first_record bytes ≡ found → IsBytes bytes →
+cut_sound : ReadIsSpelled → (h : Header) (count : ℕ) (bytes : List ℕ) (found : Result (List ℕ × List ℕ) CutFault) →
+    first_record bytes ≡ found → IsBytes bytes →
     (records_of_cut found (λ cut rest. decoded_or h (record_at cut) (records_in h count rest))).cause ≡ None →
-    ((rest : List ℕ) → IsBytes rest → (records_in h count rest).cause ≡ None → AreSpelled count rest (records_in h count rest).entries) →
-    AreSpelled (suc count) bytes (records_of_cut found (λ cut rest. decoded_or h (record_at cut) (records_in h count rest))).entries
+    ((rest : List ℕ) → IsBytes rest → (records_in h count rest).cause ≡ None →
+    AreSpelled count rest (records_in h count rest).entries) →
+    AreSpelled (suc count) bytes (records_of_cut found (λ cut rest. decoded_or h (record_at cut)
+    (records_in h count rest))).entries
 cut_sound law h count bytes (Err fault) is fits e more = absurd (cc)
 cut_sound law h count bytes (Ok (cut, rest)) is fits e more =
     let front = front_is bytes cut rest fits is in
     decoded_sound law h count bytes cut rest (record_at cut) refl front e (λ later. more rest front.rest_fits later)
 
-records_sound : ReadIsSpelled → (h : Header) (count : ℕ) (bytes : List ℕ) → IsBytes bytes → (records_in h count bytes).cause ≡ None → AreSpelled count bytes (records_in h count bytes).entries
+records_sound : ReadIsSpelled → (h : Header) (count : ℕ) (bytes : List ℕ) → IsBytes bytes →
+    (records_in h count bytes).cause ≡ None → AreSpelled count bytes (records_in h count bytes).entries
 records_sound law h zero [] fits e = record { each = tt; parts = refl; counted = refl }
 records_sound law h zero (b ∷ bytes) fits e = absurd (cc)
-records_sound law h (suc count) bytes fits e = cut_sound law h count bytes (first_record bytes) refl fits e (λ rest ok later. records_sound law h count rest ok later)
+records_sound law h (suc count) bytes fits e = cut_sound law h count bytes (first_record bytes) refl fits e
+    (λ rest ok later. records_sound law h count rest ok later)
 
 -- ---- the log
 
@@ -264,7 +297,8 @@ map_length [] = refl
 map_length (e ∷ entries) = ap suc (map_length entries)
 
 -- Bytes that are read without a fault are the spelling of the log that is read.
-pub read_is_spelled : ReadIsSpelled → (seq : ℕ) (bytes : List ℕ) → AreBytes bytes → header_fault seq bytes ≡ None → (records_of bytes).cause ≡ None →
+pub read_is_spelled : ReadIsSpelled → (seq : ℕ) (bytes : List ℕ) → AreBytes bytes → header_fault seq bytes ≡ None →
+    (records_of bytes).cause ≡ None →
     IsSpelled (record { head = header_in bytes; records = map (λ e. e.1) (records_of bytes).entries }) bytes
 read_is_spelled law seq bytes are head e =
     let fits = bytes_fit bytes are in
@@ -273,6 +307,10 @@ read_is_spelled law seq bytes are head e =
     let found = records_sound law h h.count (drop 40 bytes) (drop_fits 40 bytes fits) e in
     let back = found.parts in
     record {
-      log = record { head = header_fits bytes fits; each = found.each; counted = found.counted ∙ sym (map_length (records_of bytes).entries) };
+      log = record {
+        head = header_fits bytes fits;
+        each = found.each;
+        counted = found.counted ∙ sym (map_length (records_of bytes).entries);
+      };
       spelled = sym (take-append-drop 40 bytes) ∙ (λ i. front i ++ back i);
     }

@@ -19,25 +19,30 @@ use Rattle.redo_spec.proofs.MarkRanges.{Began, Within, Old, began_after_record, 
 
 -- ---- what stays through records
 
-kept_or : (P : Standing → History → Type 0) (o : Option LawFault) (left : Dictionary) (s : Standing) (h : History) (later : Admitted) → P s h → (o ≡ None → P later.standing later.history) →
+kept_or : (P : Standing → History → Type 0) (o : Option LawFault) (left : Dictionary) (s : Standing) (h : History)
+    (later : Admitted) → P s h → (o ≡ None → P later.standing later.history) →
     P (admitted_or o left s h later).standing (admitted_or o left s h later).history
 kept_or P None left s h later here more = more refl
 kept_or P (Some fault) left s h later here more = here
 
 -- what each admitted record keeps, the redo keeps
-kept : (P : Standing → History → Type 0) → ((e : Entry) (s : Standing) (h : History) → P s h → record_fault s e ≡ None → P (record_after e s) (history_after (s.rec + 1) e h)) →
+kept : (P : Standing → History → Type 0) → ((e : Entry) (s : Standing) (h : History) → P s h → record_fault s e ≡ None →
+    P (record_after e s) (history_after (s.rec + 1) e h)) →
     (es : List Entry) (s : Standing) (h : History) → P s h → P (admission s h es).standing (admission s h es).history
 kept P each [] s h here = here
 kept P each (e ∷ es) s h here =
     kept_or P (record_fault s e) (dictionary_left s e) s h (admission (record_after e s) (history_after (s.rec + 1) e h) es) here
     (λ fits. kept P each es (record_after e s) (history_after (s.rec + 1) e h) (each e s h here fits))
 
-sound_at : (es : List Entry) (s : Standing) (h : History) → Sound s h → Sound (admission s h es).standing (admission s h es).history
+sound_at : (es : List Entry) (s : Standing) (h : History) → Sound s h →
+    Sound (admission s h es).standing (admission s h es).history
 sound_at = kept Sound (λ e s h here fits. sound_after_record e s h here fits)
 
-within_at : (es : List Entry) (s : Standing) (h : History) → Within s.rec h → Within (admission s h es).standing.rec (admission s h es).history
+within_at : (es : List Entry) (s : Standing) (h : History) → Within s.rec h →
+    Within (admission s h es).standing.rec (admission s h es).history
 within_at =
-    kept (λ s h. Within s.rec h) (λ e s h here fits. subst (λ k. Within k (history_after (s.rec + 1) e h)) (sym (rec_after_record e s)) (within_after_record s.rec e h here))
+    kept (λ s h. Within s.rec h) (λ e s h here fits. subst (λ k. Within k (history_after (s.rec + 1) e h))
+    (sym (rec_after_record e s)) (within_after_record s.rec e h here))
 
 old_at : (q b : ℕ) (es : List Entry) (s : Standing) (h : History) → Old q b h → Old q b (admission s h es).history
 old_at q b = kept (λ s h. Old q b h) (λ e s h here fits. old_after_record q b (s.rec + 1) e h here)
@@ -46,27 +51,41 @@ record Late (q n : ℕ) (s : Standing) (h : History) : Type 0 where
   past : q ≤ s.rec
   began : Began (λ k. q < k) n h
 
-late_after : (q n : ℕ) (e : Entry) (s : Standing) (h : History) → Late q n s h → Late q n (record_after e s) (history_after (s.rec + 1) e h)
+late_after : (q n : ℕ) (e : Entry) (s : Standing) (h : History) → Late q n s h →
+    Late q n (record_after e s) (history_after (s.rec + 1) e h)
 late_after q n e s h late =
     let past = late.past in
     let count = rec_after_record e s in
-    record { past = omega (arith, past, count); began = began_after_record (λ k. q < k) n (s.rec + 1) e h (omega (arith, past)) late.began }
+    record {
+      past = omega (arith, past, count);
+      began = began_after_record (λ k. q < k) n (s.rec + 1) e h
+          (omega (arith, past)) late.began;
+    }
 
-late_at : (q n : ℕ) (es : List Entry) (s : Standing) (h : History) → (1 ≤ length es → q ≤ s.rec) → Began (λ k. q < k) n h → Began (λ k. q < k) n (admission s h es).history
+late_at : (q n : ℕ) (es : List Entry) (s : Standing) (h : History) → (1 ≤ length es → q ≤ s.rec) → Began (λ k. q < k) n h →
+    Began (λ k. q < k) n (admission s h es).history
 late_at q n [] s h past began = began
 late_at q n (e ∷ es) s h past began =
     let some : 1 ≤ length (e ∷ es) = omega arith in
-    (kept (Late q n) (λ e s h here fits. late_after q n e s h here) (e ∷ es) s h (record { past = past some; began = began })).began
+    (kept (Late q n) (λ e s h here fits. late_after q n e s h here) (e ∷ es) s h
+    (record { past = past some; began = began })).began
 
 -- ---- the two runs
 
 -- what is admitted by a run that begins behind record q and b commits
 abbrev pub admitted_behind : ℕ → ℕ → ℕ → Admitted → Admitted
-admitted_behind q m b a = record { standing = behind q m a.standing; history = history_behind q b a.history; fault = a.fault; left = a.left }
+admitted_behind q m b a = record {
+  standing = behind q m a.standing;
+  history = history_behind q b a.history;
+  fault = a.fault;
+  left = a.left;
+}
 
 -- up to record m neither has a fault
-known_alike : (q m b : ℕ) (es : List Entry) (s : Standing) (h : History) → (1 ≤ length es → q ≤ s.rec) → s.rec + length es ≤ m → Sound s h → Old q b h →
-    (admission s h es).fault ≡ None → admission (behind q m s) (history_behind q b h) es ≡ admitted_behind q m b (admission s h es)
+known_alike : (q m b : ℕ) (es : List Entry) (s : Standing) (h : History) → (1 ≤ length es → q ≤ s.rec) → s.rec + length es ≤ m →
+    Sound s h → Old q b h →
+    (admission s h es).fault ≡ None → admission (behind q m s) (history_behind q b h) es ≡
+    admitted_behind q m b (admission s h es)
 known_alike q m b [] s h past within sound old e = refl
 known_alike q m b (x ∷ xs) s h past within sound old e =
     let s1 = record_after x s in
@@ -82,14 +101,18 @@ known_alike q m b (x ∷ xs) s h past within sound old e =
     let standing = behind_after_record q m x s here in
     let history = history_behind_record q b x s h here old.few sound fits in
     let old1 = old_after_record q b (s.rec + 1) x h old in
-    ap (λ o. admitted_or o (dictionary_left (behind q m s) x) (behind q m s) (history_behind q b h) (admission (record_after x (behind q m s)) (history_after (s.rec + 1) x (history_behind q b h)) xs)) fits_behind
+    ap (λ o. admitted_or o (dictionary_left (behind q m s) x) (behind q m s) (history_behind q b h)
+    (admission (record_after x (behind q m s)) (history_after (s.rec + 1) x (history_behind q b h)) xs)) fits_behind
     ∙ (λ i. admission (standing i) (history i) xs)
-    ∙ known_alike q m b xs s1 h1 (λ _. omega (arith, here, count)) (omega (arith, within, long, count)) (sound_after_record x s h sound fits) old1 later
+    ∙ known_alike q m b xs s1 h1 (λ _. omega (arith, here, count)) (omega (arith, within, long, count))
+    (sound_after_record x s h sound fits) old1 later
     ∙ sym (ap (λ o. admitted_behind q m b (admitted_or o (dictionary_left s x) s h (admission s1 h1 xs))) fits)
 
-or_behind : (q m b : ℕ) (o : Option LawFault) (left left_behind : Dictionary) (s : Standing) (h : History) (later later_behind : Admitted) → left_behind ≡ left →
+or_behind : (q m b : ℕ) (o : Option LawFault) (left left_behind : Dictionary) (s : Standing) (h : History)
+    (later later_behind : Admitted) → left_behind ≡ left →
     (o ≡ None → later_behind ≡ admitted_behind q m b later) →
-    admitted_or o left_behind (behind q m s) (history_behind q b h) later_behind ≡ admitted_behind q m b (admitted_or o left s h later)
+    admitted_or o left_behind (behind q m s) (history_behind q b h) later_behind ≡
+    admitted_behind q m b (admitted_or o left s h later)
 or_behind q m b None left left_behind s h later later_behind same more = more refl
 or_behind q m b (Some fault) left left_behind s h later later_behind same more =
     ap (λ (d : Dictionary). record { standing = behind q m s; history = history_behind q b h; fault = Some fault; left = d }) same
@@ -98,10 +121,12 @@ or_behind q m b (Some fault) left left_behind s h later later_behind same more =
 none_missing : (q : ℕ) (ts : List Txn) → AllByRecursion (λ t. q < t.start.rec) ts → filter (λ t. nat_lt q t.start.rec) ts ≡ ts
 none_missing q ts late =
     filter_all (λ (t : Txn). nat_lt q t.start.rec) ts
-    (all_weaker (λ (t : Txn). q < t.start.rec) (λ (t : Txn). nat_lt q t.start.rec ≡ true) (λ t is. lt-ltb q t.start.rec is) ts late)
+    (all_weaker (λ (t : Txn). q < t.start.rec) (λ (t : Txn). nat_lt q t.start.rec ≡ true)
+    (λ t is. lt-ltb q t.start.rec is) ts late)
 
 -- where the open transactions began behind it, the standing has them all
-all_open : (q : ℕ) (s : Standing) (h : History) → Agrees s h → AllByRecursion (λ t. q < t.start.rec) h.active → filter (λ t. nat_lt q t.start.rec) s.active ≡ s.active
+all_open : (q : ℕ) (s : Standing) (h : History) → Agrees s h → AllByRecursion (λ t. q < t.start.rec) h.active →
+    filter (λ t. nat_lt q t.start.rec) s.active ≡ s.active
 all_open q s h a late =
     let tables = s.dictionary.tables in
     ap (λ (ts : List OpenTxn). filter (λ t. nat_lt q t.start.rec) ts) a.same
@@ -110,7 +135,8 @@ all_open q s h a late =
     ∙ sym a.same
 
 -- behind it both judge alike
-later_alike : (q m n b : ℕ) (es : List Entry) (s : Standing) (h : History) → (1 ≤ length es → m ≤ s.rec) → q ≤ m → Sound s h → Old q b h → Began (λ k. q < k) n h →
+later_alike : (q m n b : ℕ) (es : List Entry) (s : Standing) (h : History) → (1 ≤ length es → m ≤ s.rec) → q ≤ m → Sound s h →
+    Old q b h → Began (λ k. q < k) n h →
     admission (behind q m s) (history_behind q b h) es ≡ admitted_behind q m b (admission s h es)
 later_alike q m n b [] s h past order sound old began = refl
 later_alike q m n b (x ∷ xs) s h past order sound old began =
@@ -122,18 +148,23 @@ later_alike q m n b (x ∷ xs) s h past order sound old began =
     let none = sound.known in
     let begun : s.known ≤ s.rec = omega (arith, none) in
     let count = rec_after_record x s in
-    let same : behind q m s ≡ knowing m s = ap (λ (ts : List OpenTxn). record s { known = m; active = ts }) (all_open q s h sound.agrees began.active) in
-    let fault : record_fault (behind q m s) x ≡ record_fault s x = ap (λ (u : Standing). record_fault u x) same ∙ record_known m x s begun known in
-    let left : dictionary_left (behind q m s) x ≡ dictionary_left s x = ap (λ (u : Standing). dictionary_left u x) same ∙ dictionary_known m x s begun known in
+    let same : behind q m s ≡ knowing m s = ap (λ (ts : List OpenTxn). record s { known = m; active = ts })
+    (all_open q s h sound.agrees began.active) in
+    let fault : record_fault (behind q m s) x ≡ record_fault s x =
+    ap (λ (u : Standing). record_fault u x) same ∙ record_known m x s begun known in
+    let left : dictionary_left (behind q m s) x ≡ dictionary_left s x =
+    ap (λ (u : Standing). dictionary_left u x) same ∙ dictionary_known m x s begun known in
     let later_behind = admission (record_after x (behind q m s)) (history_after (s.rec + 1) x (history_behind q b h)) xs in
     let standing = behind_after_record q m x s here in
     ap (λ o. admitted_or o (dictionary_left (behind q m s) x) (behind q m s) (history_behind q b h) later_behind) fault
-    ∙ or_behind q m b (record_fault s x) (dictionary_left s x) (dictionary_left (behind q m s) x) s h (admission s1 h1 xs) later_behind left
+    ∙ or_behind q m b (record_fault s x) (dictionary_left s x) (dictionary_left (behind q m s) x) s h (admission s1 h1 xs)
+    later_behind left
     (λ fits.
     let history = history_behind_record q b x s h here old.few sound fits in
     let next : q < s.rec + 1 = omega (arith, here) in
     (λ i. admission (standing i) (history i) xs)
-    ∙ later_alike q m n b xs s1 h1 (λ _. omega (arith, known, count)) order (sound_after_record x s h sound fits) (old_after_record q b (s.rec + 1) x h old)
+    ∙ later_alike q m n b xs s1 h1 (λ _. omega (arith, known, count)) order (sound_after_record x s h sound fits)
+    (old_after_record q b (s.rec + 1) x h old)
     (began_after_record (λ k. q < k) n (s.rec + 1) x h next began))
 
 -- ---- at the mark
@@ -147,18 +178,26 @@ record Parts (first base q m n : ℕ) (begun between later : List Entry) : Type 
   known : 1 ≤ length later → m ≤ length begun + length between
   well : (admission (beginning first base) (no_history 0) (begun ++ between)).fault ≡ None
   late : AllByRecursion (λ t. q < t.start.rec) (admission (beginning first base) (no_history 0) (begun ++ between)).history.active
-  above : AllByRecursion (λ c. q < c.txn.start.rec) (commits_after (admission (beginning first base) (no_history 0) (begun ++ between)).history.commits n)
+  above : AllByRecursion (λ c. q < c.txn.start.rec) (commits_after
+      (admission (beginning first base) (no_history 0) (begun ++ between)).history.commits n)
 
 begun_sound : (first base : ℕ) → Sound (beginning first base) (no_history 0)
-begun_sound first base = record { known = refl; agrees = record { same = refl; none = λ e. refl }; before = refl; one = λ x. omega arith }
+begun_sound first base = record {
+  known = refl;
+  agrees = record { same = refl; none = λ e. refl };
+  before = refl;
+  one = λ x. omega arith;
+}
 
 begun_within : Within 0 (no_history 0)
 begun_within = record { began = record { active = tt; made = tt }; rolled_back = tt }
 
-none_late : (q rec : ℕ) (ts : List Txn) → rec ≤ q → AllByRecursion (λ t. t.start.rec ≤ rec) ts → filter (λ t. nat_lt q t.start.rec) ts ≡ []
+none_late : (q rec : ℕ) (ts : List Txn) → rec ≤ q → AllByRecursion (λ t. t.start.rec ≤ rec) ts →
+    filter (λ t. nat_lt q t.start.rec) ts ≡ []
 none_late q rec ts short a =
     filter_no (λ (t : Txn). nat_lt q t.start.rec) ts
-    (all_weaker (λ (t : Txn). t.start.rec ≤ rec) (λ (t : Txn). nat_lt q t.start.rec ≡ false) (λ t is. le-ltb q t.start.rec (omega (arith, is, short))) ts a)
+    (all_weaker (λ (t : Txn). t.start.rec ≤ rec) (λ (t : Txn). nat_lt q t.start.rec ≡ false)
+    (λ t is. le-ltb q t.start.rec (omega (arith, is, short))) ts a)
 
 standing_at_mark : (q m : ℕ) (s : Standing) (h : History) → s.rec ≤ q → Sound s h → Within s.rec h → from_mark s m ≡ behind q m s
 standing_at_mark q m s h short sound within =
@@ -169,7 +208,8 @@ standing_at_mark q m s h short sound within =
     ∙ ap (open_txns tables) (none_late q s.rec h.active short within.began.active) in
     ap (λ (ts : List OpenTxn). record s { known = m; active = ts }) (sym gone)
 
-history_at_mark : (q rec : ℕ) (h : History) → rec ≤ q → Within rec h → no_history (commit_count h.commits) ≡ history_behind q (commit_count h.commits) h
+history_at_mark : (q rec : ℕ) (h : History) → rec ≤ q → Within rec h →
+    no_history (commit_count h.commits) ≡ history_behind q (commit_count h.commits) h
 history_at_mark q rec h short within =
     let b = commit_count h.commits in
     let active = none_late q rec h.active short within.began.active in
@@ -183,7 +223,8 @@ old_at_mark q rec h short before within =
     record {
       few = omega (arith, before);
       old = all_take (λ (c : Committed). c.txn.start.rec ≤ q) b h.commits.made
-          (all_weaker (λ (c : Committed). c.txn.start.rec ≤ rec) (λ (c : Committed). c.txn.start.rec ≤ q) (λ c is. omega (arith, is, short)) h.commits.made within.began.made);
+          (all_weaker (λ (c : Committed). c.txn.start.rec ≤ rec) (λ (c : Committed). c.txn.start.rec ≤ q)
+          (λ c is. omega (arith, is, short)) h.commits.made within.began.made);
     }
 
 -- What both runs have come to at record m, in the terms of the whole redo.
@@ -193,12 +234,14 @@ record AtKnown (q m n b : ℕ) (begun between later : List Entry) (s : Standing)
   began : Began (λ k. q < k) n am.history
   rec : am.standing.rec ≡ length begun + length between
   alike : admission (behind q m s) (history_behind q b h) between ≡ admitted_behind q m b am
-  goes_on : admission (behind q m s) (history_behind q b h) (between ++ later) ≡ admission (behind q m am.standing) (history_behind q b am.history) later
+  goes_on : admission (behind q m s) (history_behind q b h) (between ++ later) ≡
+      admission (behind q m am.standing) (history_behind q b am.history) later
 
 -- the standing and the history at record q, with the number of commits there
 at_known : (first base q m n : ℕ) (begun between later : List Entry) → Parts first base q m n begun between later →
     let aq = admission (beginning first base) (no_history 0) begun in
-    AtKnown q m n (commit_count aq.history.commits) begun between later aq.standing aq.history (admission aq.standing aq.history between)
+    AtKnown q m n (commit_count aq.history.commits) begun between later aq.standing aq.history
+    (admission aq.standing aq.history between)
 at_known first base q m n begun between later p =
     let s0 = beginning first base in
     let h0 = no_history 0 in
@@ -216,13 +259,16 @@ at_known first base q m n begun between later p =
     let within_q : Within aq.standing.rec aq.history = within_at begun s0 h0 begun_within in
     let rec_q : aq.standing.rec ≡ 0 + length begun = rec_well begun s0 h0 well_q in
     let rec_m : am.standing.rec ≡ aq.standing.rec + length between = rec_well between aq.standing aq.history well in
-    let old_q : Old q b aq.history = old_at_mark q aq.standing.rec aq.history (omega (arith, rec_q, short)) sound_q.before within_q in
+    let old_q : Old q b aq.history = old_at_mark q aq.standing.rec aq.history (omega (arith, rec_q, short))
+    sound_q.before within_q in
     let sound : Sound am.standing am.history = sound_at between aq.standing aq.history sound_q in
     let both : length (between ++ later) ≡ length between + length later = length-append between later in
     let alike : admission (behind q m aq.standing) (history_behind q b aq.history) between ≡ admitted_behind q m b am =
-    known_alike q m b between aq.standing aq.history (λ some. omega (arith, rec_q, full, both, some)) (omega (arith, rec_q, within)) sound_q old_q well in
+    known_alike q m b between aq.standing aq.history (λ some. omega (arith, rec_q, full, both, some))
+    (omega (arith, rec_q, within)) sound_q old_q well in
     let above : AllByRecursion (λ (c : Committed). q < c.txn.start.rec) (commits_after am.history.commits n) =
-    subst (λ (a : Admitted). AllByRecursion (λ (c : Committed). q < c.txn.start.rec) (commits_after a.history.commits n)) same p.above in
+    subst (λ (a : Admitted). AllByRecursion (λ (c : Committed). q < c.txn.start.rec) (commits_after a.history.commits n))
+    same p.above in
     let number : n - am.history.commits.before ≡ n = ap (λ k. n - k) sound.before ∙ omega arith in
     record {
       sound = sound;
@@ -233,7 +279,8 @@ at_known first base q m n begun between later p =
       };
       rec = omega (arith, rec_q, rec_m);
       alike = alike;
-      goes_on = append_well between later (behind q m aq.standing) (history_behind q b aq.history) (ap (λ (a : Admitted). a.fault) alike ∙ well)
+      goes_on = append_well between later (behind q m aq.standing) (history_behind q b aq.history)
+          (ap (λ (a : Admitted). a.fault) alike ∙ well)
           ∙ ap (λ (a : Admitted). admission a.standing a.history later) alike;
     }
 
@@ -254,7 +301,8 @@ whole_goes_on first base q m n begun between later p =
 runs_alike : (first base q m n : ℕ) (begun between later : List Entry) → Parts first base q m n begun between later →
     let aq = admission (beginning first base) (no_history 0) begun in
     let b = commit_count aq.history.commits in
-    admission (from_mark aq.standing m) (no_history b) (between ++ later) ≡ admitted_behind q m b (admission (beginning first base) (no_history 0) (begun ++ (between ++ later)))
+    admission (from_mark aq.standing m) (no_history b) (between ++ later) ≡
+    admitted_behind q m b (admission (beginning first base) (no_history 0) (begun ++ (between ++ later)))
 runs_alike first base q m n begun between later p =
     let s0 = beginning first base in
     let h0 = no_history 0 in
@@ -274,7 +322,8 @@ runs_alike first base q m n begun between later p =
     let history = history_at_mark q aq.standing.rec aq.history before within_q in
     (λ i. admission (standing i) (history i) (between ++ later))
     ∙ at.goes_on
-    ∙ later_alike q m n b later am.standing am.history (λ some. omega (arith, rec_m, known, some)) p.order at.sound at.old at.began
+    ∙ later_alike q m n b later am.standing am.history (λ some. omega (arith, rec_m, known, some)) p.order at.sound
+    at.old at.began
     ∙ ap (admitted_behind q m b) (sym (whole_goes_on first base q m n begun between later p))
 
 -- What the whole redo has come to at its end.
@@ -303,7 +352,8 @@ at_end first base q m n begun between later p =
 
 -- ---- the commits above the applied count
 
-clash : {X : Type 0} (q n b : ℕ) (made : List Committed) → n < b → b ≤ length made → AllByRecursion (λ c. c.txn.start.rec ≤ q) (take b made) →
+clash : {X : Type 0} (q n b : ℕ) (made : List Committed) → n < b → b ≤ length made →
+    AllByRecursion (λ c. c.txn.start.rec ≤ q) (take b made) →
     AllByRecursion (λ c. q < c.txn.start.rec) (drop n made) → X
 clash q n b [] low few old late = absurd (omega (arith, low, few))
 clash q zero zero (c ∷ cs) low few old late = absurd (omega (arith, low))
@@ -312,7 +362,8 @@ clash q (suc n) zero (c ∷ cs) low few old late = absurd (omega (arith, low))
 clash q (suc n) (suc b) (c ∷ cs) low few old late = clash q n b cs (omega (arith, low)) (omega (arith, few)) old.1 late
 
 seen_late : (q : ℕ) (c : Committed) → q < c.txn.start.rec → seen q c ≡ c
-seen_late q c late = ap (λ x. cond x c (record { txn = txn_known_by_commit c.at c.txn.xid; at = c.at; scn = c.scn })) (lt-ltb q c.txn.start.rec late)
+seen_late q c late = ap (λ x. cond x c (record { txn = txn_known_by_commit c.at c.txn.xid; at = c.at; scn = c.scn }))
+    (lt-ltb q c.txn.start.rec late)
 
 commits_seen : (q b n : ℕ) (h : History) → Old q b h → h.commits.before ≡ 0 → Began (λ k. q < k) n h →
     commits_after (history_behind q b h).commits n ≡ commits_after h.commits n
@@ -343,7 +394,8 @@ front_is es q m order =
     ∙ ap (λ (xs : List Entry). xs ++ drop q (take m es)) (sym (take-take q m es order))
     ∙ take-append-drop q (take m es)
 
-fitting_parts : (first base : ℕ) (es : List Entry) (q m n : ℕ) → MarkFits first base es q m n → Parts first base q m n (take q es) (middle es q m) (back es q m)
+fitting_parts : (first base : ℕ) (es : List Entry) (q m n : ℕ) → MarkFits first base es q m n →
+    Parts first base q m n (take q es) (middle es q m) (back es q m)
 fitting_parts first base es q m n fits =
     let order = fits.order in
     let rest = drop q es in
@@ -361,8 +413,10 @@ fitting_parts first base es q m n fits =
       within = omega (arith, long_begun, long_between, order);
       known = λ some. omega (arith, some, long_later, long_rest, long_begun, long_between, order);
       well = subst (λ (xs : List Entry). (admission (beginning first base) (no_history 0) xs).fault ≡ None) same fits.well;
-      late = subst (λ (xs : List Entry). AllByRecursion (λ (t : Txn). q < t.start.rec) (admission (beginning first base) (no_history 0) xs).history.active) same fits.behind;
-      above = subst (λ (xs : List Entry). AllByRecursion (λ (c : Committed). q < c.txn.start.rec) (commits_after (admission (beginning first base) (no_history 0) xs).history.commits n))
+      late = subst (λ (xs : List Entry). AllByRecursion (λ (t : Txn). q < t.start.rec)
+          (admission (beginning first base) (no_history 0) xs).history.active) same fits.behind;
+      above = subst (λ (xs : List Entry). AllByRecursion (λ (c : Committed). q < c.txn.start.rec)
+          (commits_after (admission (beginning first base) (no_history 0) xs).history.commits n))
           same fits.above;
     }
 
@@ -376,7 +430,8 @@ whole_is es q m = ap (λ (xs : List Entry). take q es ++ xs) (back_is es q m) �
 -- the run from a fitting mark is the whole redo, but for what began up to record q
 pub resumed_alike : (first base : ℕ) (es : List Entry) (q m n : ℕ) → MarkFits first base es q m n →
     resumed first base es q m
-    ≡ admitted_behind q m (commit_count (front first base es q).history.commits) (admission (beginning first base) (no_history 0) es)
+    ≡ admitted_behind q m (commit_count (front first base es q).history.commits)
+    (admission (beginning first base) (no_history 0) es)
 resumed_alike first base es q m n fits =
     let aq = front first base es q in
     let b = commit_count aq.history.commits in
@@ -398,17 +453,20 @@ resumed_standing first base es q m n fits =
     let whole = admission (beginning first base) (no_history 0) es in
     let end = fitting_end first base es q m n fits in
     ap (λ (a : Admitted). a.standing) (resumed_alike first base es q m n fits)
-    ∙ ap (λ (ts : List OpenTxn). record whole.standing { known = m; active = ts }) (all_open q whole.standing whole.history end.sound.agrees end.began.active)
+    ∙ ap (λ (ts : List OpenTxn). record whole.standing { known = m; active = ts })
+    (all_open q whole.standing whole.history end.sound.agrees end.began.active)
 
 pub resumed_active : (first base : ℕ) (es : List Entry) (q m n : ℕ) → MarkFits first base es q m n →
     (resumed first base es q m).history.active ≡ (admission (beginning first base) (no_history 0) es).history.active
 resumed_active first base es q m n fits =
     let whole = admission (beginning first base) (no_history 0) es in
     let end = fitting_end first base es q m n fits in
-    ap (λ (a : Admitted). a.history.active) (resumed_alike first base es q m n fits) ∙ none_missing q whole.history.active end.began.active
+    ap (λ (a : Admitted). a.history.active) (resumed_alike first base es q m n fits) ∙
+    none_missing q whole.history.active end.began.active
 
 pub resumed_commits : (first base : ℕ) (es : List Entry) (q m n : ℕ) → MarkFits first base es q m n →
-    commits_after (resumed first base es q m).history.commits n ≡ commits_after (admission (beginning first base) (no_history 0) es).history.commits n
+    commits_after (resumed first base es q m).history.commits n ≡
+    commits_after (admission (beginning first base) (no_history 0) es).history.commits n
 resumed_commits first base es q m n fits =
     let b = commit_count (front first base es q).history.commits in
     let whole = admission (beginning first base) (no_history 0) es in
@@ -418,21 +476,26 @@ resumed_commits first base es q m n fits =
 
 -- ---- the number of commits
 
-count_seen : (q b : ℕ) (h : History) → Old q b h → h.commits.before ≡ 0 → commit_count (history_behind q b h).commits ≡ commit_count h.commits
-count_seen q b h old before = let few = old.few in omega (arith, before, few, length-map (drop b h.commits.made) (seen q), length-drop b h.commits.made)
+count_seen : (q b : ℕ) (h : History) → Old q b h → h.commits.before ≡ 0 →
+    commit_count (history_behind q b h).commits ≡ commit_count h.commits
+count_seen q b h old before = let few = old.few in omega
+    (arith, before, few, length-map (drop b h.commits.made) (seen q), length-drop b h.commits.made)
 
 pub resumed_count : (first base : ℕ) (es : List Entry) (q m n : ℕ) → MarkFits first base es q m n →
-    commit_count (resumed first base es q m).history.commits ≡ commit_count (admission (beginning first base) (no_history 0) es).history.commits
+    commit_count (resumed first base es q m).history.commits ≡
+    commit_count (admission (beginning first base) (no_history 0) es).history.commits
 resumed_count first base es q m n fits =
     let b = commit_count (front first base es q).history.commits in
     let whole = admission (beginning first base) (no_history 0) es in
     let end = fitting_end first base es q m n fits in
-    ap (λ (a : Admitted). commit_count a.history.commits) (resumed_alike first base es q m n fits) ∙ count_seen q b whole.history end.old end.sound.before
+    ap (λ (a : Admitted). commit_count a.history.commits) (resumed_alike first base es q m n fits) ∙
+    count_seen q b whole.history end.old end.sound.before
 
 -- ---- a mark fits on
 
 -- at a greater applied count
-pub fits_at_more : (first base : ℕ) (es : List Entry) (q m n k : ℕ) → MarkFits first base es q m n → n ≤ k → MarkFits first base es q m k
+pub fits_at_more : (first base : ℕ) (es : List Entry) (q m n k : ℕ) → MarkFits first base es q m n → n ≤ k →
+    MarkFits first base es q m k
 fits_at_more first base es q m n k fits more =
     let commits = (front first base es m).history.commits in
     let i = n - commits.before in
@@ -449,7 +512,8 @@ fits_at_more first base es q m n k fits more =
     }
 
 -- in a longer redo
-pub fits_longer : (first base : ℕ) (es more : List Entry) (q m n : ℕ) → MarkFits first base es q m n → MarkFits first base (es ++ more) q m n
+pub fits_longer : (first base : ℕ) (es more : List Entry) (q m n : ℕ) → MarkFits first base es q m n →
+    MarkFits first base (es ++ more) q m n
 fits_longer first base es more q m n fits =
     let there = fits.there in
     let same : take m es ≡ take m (es ++ more) = sym (take-append-le m es more there) in
@@ -457,7 +521,9 @@ fits_longer first base es more q m n fits =
       order = fits.order;
       there = omega (arith, there, length-append es more);
       well = subst (λ (xs : List Entry). (admission (beginning first base) (no_history 0) xs).fault ≡ None) same fits.well;
-      behind = subst (λ (xs : List Entry). AllByRecursion (λ (t : Txn). q < t.start.rec) (admission (beginning first base) (no_history 0) xs).history.active) same fits.behind;
-      above = subst (λ (xs : List Entry). AllByRecursion (λ (c : Committed). q < c.txn.start.rec) (commits_after (admission (beginning first base) (no_history 0) xs).history.commits n))
+      behind = subst (λ (xs : List Entry). AllByRecursion (λ (t : Txn). q < t.start.rec)
+          (admission (beginning first base) (no_history 0) xs).history.active) same fits.behind;
+      above = subst (λ (xs : List Entry). AllByRecursion (λ (c : Committed). q < c.txn.start.rec)
+          (commits_after (admission (beginning first base) (no_history 0) xs).history.commits n))
           same fits.above;
     }

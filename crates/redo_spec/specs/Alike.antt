@@ -17,6 +17,7 @@ AreAlike (Exists k) other = other ≡ Exists k
 
 -- two verdicts are equal, or mismatches of one change whose misses are alike
 abbrev pub AreAlikeVerdicts : Verdict → Verdict → Type 0
-AreAlikeVerdicts (Mismatch scn pos table miss) other = (found : Miss) × AreAlike miss found × (other ≡ Mismatch scn pos table found)
+AreAlikeVerdicts (Mismatch scn pos table miss) other = (found : Miss) × AreAlike miss found ×
+    (other ≡ Mismatch scn pos table found)
 AreAlikeVerdicts (Stopped stop) other = other ≡ Stopped stop
 AreAlikeVerdicts (RowLimit scn) other = other ≡ RowLimit scn

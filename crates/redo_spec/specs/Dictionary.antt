@@ -114,7 +114,8 @@ names_stand_twice (c ∷ cs) = list_any (λ d. same_bytes c.name d.name) cs || n
 
 -- a name that is none, or a column's name twice
 abbrev pub has_bad_names : TableRow → Bool
-has_bad_names t = not (is_name t.schema && is_name t.name && list_all (λ c. is_name c.name) t.columns) || names_stand_twice t.columns
+has_bad_names t = not (is_name t.schema && is_name t.name && list_all (λ c. is_name c.name) t.columns) ||
+    names_stand_twice t.columns
 
 -- a key column that is none, a column of the primary key that may be Null, or a key twice
 abbrev pub has_bad_keys : TableRow → Bool

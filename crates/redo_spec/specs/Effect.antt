@@ -30,7 +30,8 @@ taken_at t rows index columns values =
 -- the first unique key at which another row has the row's value
 abbrev pub taken_by : TableRow → Rows → List Value → List (ℕ × List ℕ) → Option Miss
 taken_by t rows row [] = None
-taken_by t rows row ((index, columns) ∷ more) = option_or (taken_at t rows index columns (values_at row columns)) (taken_by t rows row more)
+taken_by t rows row ((index, columns) ∷ more) = option_or (taken_at t rows index columns (values_at row columns))
+    (taken_by t rows row more)
 
 -- a row has this primary key
 abbrev pub exists_at : Table → List Value → Option Miss
@@ -55,7 +56,11 @@ difference row ((column, logged) ∷ cells) =
 abbrev pub take_row : Table → List Value → List (ℕ × Value) → Result (List Value × Table) Miss
 take_row t k logged =
     or_err (entries.find row_cmp k t.rows) (Absent (named t.row k))
-    >>= λ row. refused_by (difference row logged) (row, record t { rows = entries.where_key row_cmp (λ x. not (eq_by_cmp row_cmp k x)) t.rows })
+    >>= λ row. refused_by (difference row logged) (
+      row,
+      record t
+          { rows = entries.where_key row_cmp (λ x. not (eq_by_cmp row_cmp k x)) t.rows },
+    )
 
 -- the row with these cells put in
 abbrev pub with_cells : TableRow → List Value → List (ℕ × Value) → List Value

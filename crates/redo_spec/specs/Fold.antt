@@ -85,7 +85,8 @@ stop_of_commit scn (Ok rows) = if nat_lt live_row_limit rows then Some (RowLimit
 
 -- what keeps commit n from being applied, if anything does
 abbrev pub stop_at : Base → List Skip → Commits → ℕ → Option Verdict
-stop_at b skips cs n = stop_of_commit (scn_at b cs n) (map_ok (λ tables. row_count (visible_tables skips n b.local tables)) (tables_at b skips cs n))
+stop_at b skips cs n = stop_of_commit (scn_at b cs n) (map_ok (λ tables. row_count (visible_tables skips n b.local tables))
+    (tables_at b skips cs n))
 
 -- how far a fold comes, and what stops it there
 pub record Reached : Type 0 where

@@ -106,7 +106,10 @@ abbrev pub after_vector : ℕ → Pos → Vector → History → History
 after_vector scn at (Start x) h = record h { active = with_started at x h.active }
 after_vector scn at (OfChange c) h = record h { active = with_xid (txn_after_change (at, c)) c.xid h.active }
 after_vector scn at (Undo x) h = record h { active = with_xid txn_after_undo x h.active }
-after_vector scn at (Commit x) h = record h { active = but_xid x h.active; commits = with_commits_at at scn (txns_ended_by at x h.active) h.commits }
+after_vector scn at (Commit x) h = record h {
+  active = but_xid x h.active;
+  commits = with_commits_at at scn (txns_ended_by at x h.active) h.commits;
+}
 after_vector scn at (Rollback x) h = record h { active = but_xid x h.active; rolled_back = h.rolled_back ++ of_xid x h.active }
 after_vector scn at (Table t) h = h
 after_vector scn at DictEnd h = h

@@ -109,11 +109,13 @@ record_fault s (h, r) = option_or (whole_fault s (h, r)) (vectors_fault h 1 r.ve
 
 abbrev pub left_by_vectors : Header → ℕ → List Vector → Standing → Dictionary
 left_by_vectors h vec [] s = s.dictionary
-left_by_vectors h vec (v ∷ vs) s = option_map_or (λ fault. s.dictionary) (vector_fault h s v) (left_by_vectors h (vec + 1) vs (standing_after vec v s))
+left_by_vectors h vec (v ∷ vs) s = option_map_or (λ fault. s.dictionary) (vector_fault h s v)
+    (left_by_vectors h (vec + 1) vs (standing_after vec v s))
 
 -- that of its vectors before the refused one; where it is refused as a whole, none of its vectors counts
 abbrev pub dictionary_left : Standing → Entry → Dictionary
-dictionary_left s (h, r) = option_map_or (λ fault. s.dictionary) (whole_fault s (h, r)) (left_by_vectors h 1 r.vectors (standing_at_record (h, r) s))
+dictionary_left s (h, r) = option_map_or (λ fault. s.dictionary) (whole_fault s (h, r))
+    (left_by_vectors h 1 r.vectors (standing_at_record (h, r) s))
 
 -- ---- the redo
 
@@ -134,7 +136,8 @@ admitted_or None left s history later = later
 abbrev pub admission : Standing → History → List Entry → Admitted
 admission s history [] = record { standing = s; history = history; fault = None; left = s.dictionary }
 admission s history (e ∷ es) =
-    admitted_or (record_fault s e) (dictionary_left s e) s history (admission (record_after e s) (history_after (s.rec + 1) e history) es)
+    admitted_or (record_fault s e) (dictionary_left s e) s history
+    (admission (record_after e s) (history_after (s.rec + 1) e history) es)
 
 -- The first record that may not follow, with this fault: those before it are well, and what is admitted is what they leave.
 pub record IsFirstBad (s : Standing) (h : History) (es : List Entry) (found : LawFault) : Type 0 where

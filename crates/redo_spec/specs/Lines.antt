@@ -44,11 +44,13 @@ abbrev pub table_name : List TableRow → ℕ → List ℕ
 table_name tables id = option_map_or full_name (table_of tables id) []
 
 abbrev pub column_name : List TableRow → ℕ → ℕ → List ℕ
-column_name tables id column = option_map_or (λ t. option_map_or (λ c. c.name) (slice_get t.columns column) []) (table_of tables id) []
+column_name tables id column = option_map_or (λ t. option_map_or (λ c. c.name) (slice_get t.columns column) [])
+    (table_of tables id) []
 
 abbrev pub miss_text : List TableRow → ℕ → Miss → List (List ℕ)
 miss_text tables table (Absent k) = codes "ABSENT" ∷ key_text k.values ∷ []
-miss_text tables table (Differs column logged found) = codes "DIFFERS" ∷ column_name tables table column ∷ literal logged ∷ literal found ∷ []
+miss_text tables table (Differs column logged found) = codes "DIFFERS" ∷ column_name tables table column ∷ literal logged ∷
+    literal found ∷ []
 miss_text tables table (Exists k) = codes "EXISTS" ∷ key_text k.values ∷ []
 miss_text tables table (Taken index owner) = codes "TAKEN" ∷ decimal index ∷ key_text owner.values ∷ []
 
@@ -93,7 +95,8 @@ law_text tables laws.NoTable = codes "NOTABLE" ∷ []
 law_text tables laws.Columns = codes "COLUMNS" ∷ []
 law_text tables laws.Types = codes "TYPES" ∷ []
 law_text tables laws.Supplement = codes "SUPPLEMENT" ∷ []
-law_text tables (laws.Lock key holder) = codes "LOCK" ∷ table_name tables key.table ∷ decimal key.index ∷ key_text key.values ∷ xid_text holder ∷ []
+law_text tables (laws.Lock key holder) = codes "LOCK" ∷ table_name tables key.table ∷ decimal key.index ∷ key_text key.values ∷
+    xid_text holder ∷ []
 law_text tables laws.Nothing = codes "NOTHING" ∷ []
 law_text tables laws.OpenLimit = codes "OPENLIMIT" ∷ []
 
@@ -113,7 +116,8 @@ pos_text p = decimal p.rec ++ 46 ∷ decimal p.vec
 
 abbrev pub verdict_text : List TableRow → Verdict → List (List ℕ)
 verdict_text tables (Stopped stop) = stop_text tables stop
-verdict_text tables (Mismatch scn pos table miss) = codes "MISMATCH" ∷ decimal scn ∷ pos_text pos ∷ table_name tables table ∷ miss_text tables table miss
+verdict_text tables (Mismatch scn pos table miss) = codes "MISMATCH" ∷ decimal scn ∷ pos_text pos ∷ table_name tables table ∷
+    miss_text tables table miss
 verdict_text tables (RowLimit scn) = codes "ROWLIMIT" ∷ decimal scn ∷ []
 
 abbrev pub end_line : List TableRow → ℕ → ℕ → Verdict → Line

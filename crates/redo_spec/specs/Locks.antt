@@ -31,7 +31,8 @@ least (k ∷ ks) = Some (lesser k (least ks))
 
 -- the held keys that the change touches, and that another transaction holds
 abbrev pub contended : Standing → Change → List (Key × Xid)
-contended s c = filter (λ k. not (same_xid k.1 c.xid) && list_any (eq_by_cmp key_cmp k.0) (conflict_keys s.dictionary.tables c)) (held_keys s.active)
+contended s c = filter (λ k. not (same_xid k.1 c.xid) && list_any (eq_by_cmp key_cmp k.0) (conflict_keys s.dictionary.tables c))
+    (held_keys s.active)
 
 -- the least such key, and its holder
 abbrev pub lock_fault : Standing → Change → Option LawFault

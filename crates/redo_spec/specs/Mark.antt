@@ -29,4 +29,5 @@ from_mark s m = record s { known = m; active = [] }
 -- the admission of the records from q + 1 on, by a run that begins there
 abbrev pub resumed : ℕ → ℕ → List Entry → ℕ → ℕ → Admitted
 resumed first base entries q m =
-    let a = front first base entries q in admission (from_mark a.standing m) (no_history (commit_count a.history.commits)) (drop q entries)
+    let a = front first base entries q in admission (from_mark a.standing m) (no_history (commit_count a.history.commits))
+    (drop q entries)

@@ -49,7 +49,8 @@ records_of_cut (Ok cut) next = next cut.0 cut.1
 abbrev pub records_in : Header → ℕ → List ℕ → Records
 records_in h zero [] = record { entries = []; cause = None }
 records_in h zero (b ∷ bytes) = records_ended_by (Cut cuts.Trailing)
-records_in h (suc count) bytes = records_of_cut (first_record bytes) (λ cut rest. decoded_or h (record_at cut) (records_in h count rest))
+records_in h (suc count) bytes = records_of_cut (first_record bytes)
+    (λ cut rest. decoded_or h (record_at cut) (records_in h count rest))
 
 -- the records of a whole log
 abbrev pub records_of : List ℕ → Records
@@ -88,7 +89,8 @@ redo_from seq rec ((s, bytes) ∷ logs) =
 
 abbrev pub fold_of_header : Option HeadFault → ℕ → List ℕ → Folded
 fold_of_header (Some fault) seq bytes = fold_of_redo seq 0 [] (Malformed 1 (Head fault))
-fold_of_header None seq bytes = let redo = redo_from seq 0 ((seq, bytes) ∷ []) in fold_of_redo seq ((header_in bytes).first - 1) redo.entries redo.stop
+fold_of_header None seq bytes = let redo = redo_from seq 0 ((seq, bytes) ∷ []) in
+    fold_of_redo seq ((header_in bytes).first - 1) redo.entries redo.stop
 
 -- The fold of one log over empty tables. An absent log is a gap. Where the log is absent or its header is refused, the base
 -- SCN is 0, and no table is known.
@@ -120,9 +122,11 @@ present_or seq (Some bytes) next = next bytes
 -- so many logs from this sequence on, behind this many records, of this database where it is known
 abbrev pub mined_redo_from : (ℕ → Option (List ℕ)) → Option ℕ → ℕ → ℕ → ℕ → Redo
 mined_redo_from logs dbid zero seq rec = redo_ended_by Drained
-mined_redo_from logs dbid (suc count) seq rec = present_or seq (logs seq) (λ bytes. redo_unless_refused (mined_header_fault dbid seq bytes) rec
+mined_redo_from logs dbid (suc count) seq rec = present_or seq (logs seq)
+    (λ bytes. redo_unless_refused (mined_header_fault dbid seq bytes) rec
     (let r = records_of bytes in
-    redo_after_records rec r (mined_redo_from logs (option_or dbid (Some (header_in bytes).dbid)) count (seq + 1) (rec + length r.entries))))
+    redo_after_records rec r (mined_redo_from logs (option_or dbid (Some (header_in bytes).dbid)) count (seq + 1)
+    (rec + length r.entries))))
 
 -- the redo of the logs of these sequences, both included
 abbrev pub mined_redo : (ℕ → Option (List ℕ)) → ℕ → ℕ → Redo

@@ -37,7 +37,16 @@ pub record Standing : Type 0 where
 
 -- before the first record of a standby whose first log has this sequence, and whose base has this SCN
 abbrev pub beginning : ℕ → ℕ → Standing
-beginning first base = record { first = first; known = 0; rec = 0; head = None; scn = base; commit_scn = base; dictionary = no_dictionary; active = [] }
+beginning first base = record {
+  first = first;
+  known = 0;
+  rec = 0;
+  head = None;
+  scn = base;
+  commit_scn = base;
+  dictionary = no_dictionary;
+  active = [];
+}
 
 -- a transaction of this id is open
 abbrev pub is_open : Standing → Xid → Bool

@@ -31,7 +31,8 @@ waits_for skips tables at keys n c = if is_before c.at at && touches skips table
 -- the greatest such number of these commits, the first of which is the one after n, or 0
 abbrev pub greatest_wait : List Skip → List TableRow → Pos → List Key → ℕ → List Committed → ℕ
 greatest_wait skips tables at keys n [] = 0
-greatest_wait skips tables at keys n (c ∷ cs) = max (waits_for skips tables at keys n c) (greatest_wait skips tables at keys (n + 1) cs)
+greatest_wait skips tables at keys n (c ∷ cs) = max (waits_for skips tables at keys n c)
+    (greatest_wait skips tables at keys (n + 1) cs)
 
 -- The greatest number of a commit whose COMMIT stands before the position, and which has a kept change that touches one
 -- of the keys, or 0.

@@ -58,7 +58,8 @@ first_log = record {
   head = record { seq = 1; dbid = 9; first = 100; next = 200; count = 3 };
   records =
       rec 100 (Table t_a ∷ DictEnd ∷ [])
-      ∷ rec 101 (Start x123 ∷ OfChange (record { xid = x123; op = Insert; table = 1; old = []; new = (0, Number (pos 7)) ∷ [] }) ∷ [])
+      ∷ rec 101 (Start x123 ∷ OfChange (record { xid = x123; op = Insert; table = 1; old = []; new = (0, Number (pos 7)) ∷ [] }) ∷
+      [])
       ∷ rec 102 (Commit x123 ∷ [])
       ∷ [];
 }
@@ -98,7 +99,13 @@ numbered column [] = []
 numbered column (v ∷ vs) = (column, v) ∷ numbered (column + 1) vs
 
 abbrev pub insert : ℕ → Value → Value → Value → Vector
-insert usn id name email = OfChange (record { xid = one_of usn; op = Insert; table = 1; old = []; new = (0, id) ∷ (1, name) ∷ (2, email) ∷ [] })
+insert usn id name email = OfChange (record {
+  xid = one_of usn;
+  op = Insert;
+  table = 1;
+  old = [];
+  new = (0, id) ∷ (1, name) ∷ (2, email) ∷ [];
+})
 
 abbrev pub update : ℕ → List (ℕ × Value) → List (ℕ × Value) → Vector
 update usn old new = OfChange (record { xid = one_of usn; op = Update; table = 1; old = old; new = new })
@@ -133,7 +140,8 @@ locked_key =
 -- an update of a row that is not there
 abbrev pub absent_row : List RedoRec
 absent_row =
-    rec 101 (Start (one_of 1) ∷ update 1 ((0, n 1) ∷ (1, Text (codes "O'Neil")) ∷ (2, Null) ∷ []) ((1, Null) ∷ (2, Text (codes "o@x")) ∷ []) ∷ [])
+    rec 101 (Start (one_of 1) ∷ update 1 ((0, n 1) ∷ (1, Text (codes "O'Neil")) ∷ (2, Null) ∷ [])
+    ((1, Null) ∷ (2, Text (codes "o@x")) ∷ []) ∷ [])
     ∷ rec 102 (Commit (one_of 1) ∷ []) ∷ []
 
 -- the last record is cut short
@@ -161,7 +169,10 @@ abbrev pub shortened : List ℕ → List ℕ
 shortened bytes = take (length bytes - 1) bytes
 
 abbrev pub cut_short_log : List ℕ
-cut_short_log = shortened (log_bytes (record { head = head_of 5; records = rec 100 (Table emp ∷ DictEnd ∷ []) ∷ cut_short ++ rec 104 (Commit (one_of 2) ∷ []) ∷ [] }))
+cut_short_log = shortened (log_bytes (record {
+  head = head_of 5;
+  records = rec 100 (Table emp ∷ DictEnd ∷ []) ∷ cut_short ++ rec 104 (Commit (one_of 2) ∷ []) ∷ [];
+}))
 
 -- a table of a number and a text of up to 500 bytes
 abbrev pub t_b : TableRow
@@ -181,7 +192,13 @@ long_text_log size = log_bytes (record {
   head = head_of 3;
   records =
       rec 100 (Table t_b ∷ DictEnd ∷ [])
-      ∷ rec 101 (Start (one_of 1) ∷ OfChange (record { xid = one_of 1; op = Insert; table = 1; old = []; new = (0, n 1) ∷ (1, Text (replicate size 97)) ∷ [] }) ∷ [])
+      ∷ rec 101 (Start (one_of 1) ∷ OfChange (record {
+        xid = one_of 1;
+        op = Insert;
+        table = 1;
+        old = [];
+        new = (0, n 1) ∷ (1, Text (replicate size 97)) ∷ [];
+      }) ∷ [])
       ∷ rec 102 (Commit (one_of 1) ∷ [])
       ∷ [];
 })
@@ -258,11 +275,23 @@ column_of_numbers name = record { name = name; kind = kinds.Number; nullable = f
 
 -- a table of two numbers with these keys
 abbrev pub keyed : List (List ℕ) → TableRow
-keyed keys = record { id = 2; schema = codes "T"; name = codes "K"; columns = column_of_numbers (codes "A") ∷ column_of_numbers (codes "B") ∷ []; keys = keys }
+keyed keys = record {
+  id = 2;
+  schema = codes "T";
+  name = codes "K";
+  columns = column_of_numbers (codes "A") ∷ column_of_numbers (codes "B") ∷ [];
+  keys = keys;
+}
 
 -- a table of one text of this size
 abbrev pub text_keyed : ℕ → TableRow
-text_keyed size = record { id = 2; schema = codes "T"; name = codes "W"; columns = record { name = codes "A"; kind = kinds.Text size; nullable = false } ∷ []; keys = (0 ∷ []) ∷ [] }
+text_keyed size = record {
+  id = 2;
+  schema = codes "T";
+  name = codes "W";
+  columns = record { name = codes "A"; kind = kinds.Text size; nullable = false } ∷ [];
+  keys = (0 ∷ []) ∷ [];
+}
 
 -- a second log that begins at this SCN, with a record there, behind a first one that ends before 200
 abbrev pub two_logs : ℕ → List Entry
@@ -332,7 +361,13 @@ abbrev pub delete : ℕ → List (ℕ × Value) → Change
 delete usn old = record { xid = one_of usn; op = Delete; table = 1; old = old; new = [] }
 
 abbrev pub later_insert : Change
-later_insert = record { xid = one_of 2; op = Insert; table = 1; old = []; new = (0, n 2) ∷ (1, Text (codes "B")) ∷ (2, Text (codes "x@a")) ∷ [] }
+later_insert = record {
+  xid = one_of 2;
+  op = Insert;
+  table = 1;
+  old = [];
+  new = (0, n 2) ∷ (1, Text (codes "B")) ∷ (2, Text (codes "x@a")) ∷ [];
+}
 
 -- a row is inserted; a delete gives its unique value up, and a later insert takes it
 abbrev pub freed_value : List RedoRec
@@ -391,7 +426,10 @@ folded_under skips records =
 abbrev pub mined_logs : ℕ → ℕ → Option (List ℕ)
 mined_logs dbid seq =
     if seq == 1 then Some short_text_log
-    else if seq == 2 then Some (log_bytes (record { head = record { seq = 2; dbid = dbid; first = 200; next = 300; count = 1 }; records = rec 200 (start 1 ∷ []) ∷ [] }))
+    else if seq == 2 then Some (log_bytes (record {
+      head = record { seq = 2; dbid = dbid; first = 200; next = 300; count = 1 };
+      records = rec 200 (start 1 ∷ []) ∷ [];
+    }))
     else None
 
 abbrev pub mined_stop : ℕ → ℕ → Stop
@@ -448,7 +486,8 @@ log_at seq first records = (
 )
 
 abbrev pub log_1 : ℕ × List ℕ
-log_1 = log_at 1 100 (rec 100 (Table emp ∷ DictEnd ∷ []) ∷ rec 101 (start 1 ∷ row 1 1 ∷ []) ∷ rec 102 (Commit (one_of 1) ∷ []) ∷ [])
+log_1 = log_at 1 100 (rec 100 (Table emp ∷ DictEnd ∷ []) ∷ rec 101 (start 1 ∷ row 1 1 ∷ []) ∷
+    rec 102 (Commit (one_of 1) ∷ []) ∷ [])
 
 abbrev pub log_2 : ℕ × List ℕ
 log_2 = log_at 2 110 (rec 110 (start 2 ∷ row 2 2 ∷ []) ∷ rec 111 (Commit (one_of 2) ∷ []) ∷ [])
@@ -496,7 +535,8 @@ audit_row = record { row = audit; rows = (n 1 ∷ [], n 1 ∷ Text (codes "x") �
 abbrev pub audited_under : List Skip → List (List ℕ)
 audited_under skips =
     let a = admission (beginning 1 99) (no_history 0) audited in
-    let f = folded (record { tables = known_tables a.standing; n = 0; scn = 99; local = audit_row }) skips a.history.commits (redo_end a Drained) in
+    let f = folded (record { tables = known_tables a.standing; n = 0; scn = 99; local = audit_row }) skips a.history.commits
+    (redo_end a Drained) in
     flat_map table_lines (visible_tables skips f.n audit_row f.tables)
 
 -- ---- the dictionary

@@ -33,7 +33,8 @@ pub fn spelled_log_is_read()
 
 /// Bytes that are read without a fault are the spelling of the log that is read.
 pub fn read_log_is_spelled()
-    ensures spelled { (seq : ℕ) (bytes : List ℕ) → AreBytes bytes → header_fault seq bytes ≡ None → (records_of bytes).cause ≡ None →
+    ensures spelled { (seq : ℕ) (bytes : List ℕ) → AreBytes bytes → header_fault seq bytes ≡ None →
+        (records_of bytes).cause ≡ None →
         IsSpelled (record { head = header_in bytes; records = map (λ e. e.1) (records_of bytes).entries }) bytes }
 {
     a_read_record_is_spelled();
@@ -57,7 +58,8 @@ pub fn one_commit_more()
 /// A change without a lock fault touches no key that another open transaction holds.
 pub fn admitted_keys_are_free()
     ensures free { (s : Standing) (change : Change) → lock_fault s change ≡ None →
-        AllByRecursion (λ h. (not (same_xid h.1 change.xid) && list_any (eq_by_cmp key_cmp h.0) (conflict_keys s.dictionary.tables change)) ≡ false) (held_keys s.active) }
+        AllByRecursion (λ h. (not (same_xid h.1 change.xid) &&
+        list_any (eq_by_cmp key_cmp h.0) (conflict_keys s.dictionary.tables change)) ≡ false) (held_keys s.active) }
 {}
 
 /// From a fitting mark a run goes on exactly as the whole redo does: it comes as far, and meets the same fault with the same
@@ -71,11 +73,14 @@ pub fn a_run_from_a_mark_goes_as_far()
     ensures records { (first base : ℕ) (entries : List Entry) (q m n : ℕ) → MarkFits first base entries q m n →
         (resumed first base entries q m).standing.rec ≡ (admission (beginning first base) (no_history 0) entries).standing.rec }
     ensures standing { (first base : ℕ) (entries : List Entry) (q m n : ℕ) → MarkFits first base entries q m n →
-        (resumed first base entries q m).standing ≡ record (admission (beginning first base) (no_history 0) entries).standing { known = m } }
+        (resumed first base entries q m).standing ≡ record (admission (beginning first base) (no_history 0) entries).standing
+        { known = m } }
     ensures active { (first base : ℕ) (entries : List Entry) (q m n : ℕ) → MarkFits first base entries q m n →
-        (resumed first base entries q m).history.active ≡ (admission (beginning first base) (no_history 0) entries).history.active }
+        (resumed first base entries q m).history.active ≡
+        (admission (beginning first base) (no_history 0) entries).history.active }
     ensures count { (first base : ℕ) (entries : List Entry) (q m n : ℕ) → MarkFits first base entries q m n →
-        commit_count (resumed first base entries q m).history.commits ≡ commit_count (admission (beginning first base) (no_history 0) entries).history.commits }
+        commit_count (resumed first base entries q m).history.commits ≡
+        commit_count (admission (beginning first base) (no_history 0) entries).history.commits }
     ensures commits { (first base : ℕ) (entries : List Entry) (q m n : ℕ) → MarkFits first base entries q m n →
         commits_after (resumed first base entries q m).history.commits n
         ≡ commits_after (admission (beginning first base) (no_history 0) entries).history.commits n }
@@ -83,8 +88,10 @@ pub fn a_run_from_a_mark_goes_as_far()
 
 /// A mark that fits does so at each greater applied count, and in each redo that goes on behind its records.
 pub fn a_mark_fits_on()
-    ensures count { (first base : ℕ) (entries : List Entry) (q m n k : ℕ) → MarkFits first base entries q m n → n ≤ k → MarkFits first base entries q m k }
-    ensures longer { (first base : ℕ) (entries more : List Entry) (q m n : ℕ) → MarkFits first base entries q m n → MarkFits first base (entries ++ more) q m n }
+    ensures count { (first base : ℕ) (entries : List Entry) (q m n k : ℕ) → MarkFits first base entries q m n → n ≤ k →
+        MarkFits first base entries q m k }
+    ensures longer { (first base : ℕ) (entries more : List Entry) (q m n : ℕ) → MarkFits first base entries q m n →
+        MarkFits first base (entries ++ more) q m n }
 {}
 
 /// What is admitted whole is what its records leave.
@@ -105,10 +112,13 @@ pub fn the_first_bad_record_is_told()
 pub fn a_fold_shows_the_tables_of_its_count()
     ensures tables { (b : Base) (skips : List Skip) (commits : Commits) (stop : Stop) →
         tables_at b skips commits (folded b skips commits stop).n ≡ Ok (folded b skips commits stop).tables }
-    ensures before { (b : Base) (skips : List Skip) (commits : Commits) (stop : Stop) (k : ℕ) → b.n ≤ k → k < (folded b skips commits stop).n →
+    ensures before { (b : Base) (skips : List Skip) (commits : Commits) (stop : Stop) (k : ℕ) → b.n ≤ k →
+        k < (folded b skips commits stop).n →
         stop_at b skips commits (k + 1) ≡ None }
-    ensures there { (b : Base) (skips : List Skip) (commits : Commits) (stop : Stop) → commits.before ≤ b.n → (folded b skips commits stop).n < commit_count commits →
+    ensures there { (b : Base) (skips : List Skip) (commits : Commits) (stop : Stop) → commits.before ≤ b.n →
+        (folded b skips commits stop).n < commit_count commits →
         stop_at b skips commits ((folded b skips commits stop).n + 1) ≡ Some (folded b skips commits stop).verdict }
-    ensures last { (b : Base) (skips : List Skip) (commits : Commits) (stop : Stop) → commits.before ≤ b.n → b.n ≤ commit_count commits →
+    ensures last { (b : Base) (skips : List Skip) (commits : Commits) (stop : Stop) → commits.before ≤ b.n →
+        b.n ≤ commit_count commits →
         commit_count commits ≤ (folded b skips commits stop).n → (folded b skips commits stop).verdict ≡ Stopped stop }
 {}

@@ -57,7 +57,8 @@ pub fn absent_row_folds()
 /// A record that is cut short ends the redo, and what stands before it is folded.
 pub fn cut_short_folds()
     ensures truncated { emp_fold cut_short (Malformed 5 (Cut Truncated))
-        ≡ codes "APPLIED_SCN 102" ∷ codes "TABLE HR.EMP 1" ∷ codes "ROW 7 NULL NULL" ∷ codes "END 102 1 MALFORMED 5 TRUNCATED" ∷ [] }
+        ≡ codes "APPLIED_SCN 102" ∷ codes "TABLE HR.EMP 1" ∷ codes "ROW 7 NULL NULL" ∷
+        codes "END 102 1 MALFORMED 5 TRUNCATED" ∷ [] }
 {}
 
 /// A row that is not as it was logged is a mismatch, at the column.
@@ -74,15 +75,18 @@ pub fn absent_log_folds()
 
 /// A header that is refused is told, and no table is known.
 pub fn bad_header_folds()
-    ensures magic { fold_bytes 1 (Some (0 ∷ first_bytes)) ≡ codes "APPLIED_SCN 0" ∷ codes "END 0 0 MALFORMED 1 HEADER MAGIC" ∷ [] }
+    ensures magic { fold_bytes 1 (Some (0 ∷ first_bytes)) ≡ codes "APPLIED_SCN 0" ∷
+        codes "END 0 0 MALFORMED 1 HEADER MAGIC" ∷ [] }
     ensures short { fold_bytes 1 (Some []) ≡ codes "APPLIED_SCN 0" ∷ codes "END 0 0 MALFORMED 1 HEADER SHORT" ∷ [] }
-    ensures sequence { fold_bytes 2 (Some first_bytes) ≡ codes "APPLIED_SCN 0" ∷ codes "END 0 0 MALFORMED 1 HEADER SEQUENCE" ∷ [] }
+    ensures sequence { fold_bytes 2 (Some first_bytes) ≡ codes "APPLIED_SCN 0" ∷
+        codes "END 0 0 MALFORMED 1 HEADER SEQUENCE" ∷ [] }
 {}
 
 /// The same as a record cut short, from the bytes of a log whose last byte is missing.
 pub fn cut_short_log_folds()
     ensures truncated { fold_bytes 1 (Some cut_short_log)
-        ≡ codes "APPLIED_SCN 102" ∷ codes "TABLE HR.EMP 1" ∷ codes "ROW 7 NULL NULL" ∷ codes "END 102 1 MALFORMED 5 TRUNCATED" ∷ [] }
+        ≡ codes "APPLIED_SCN 102" ∷ codes "TABLE HR.EMP 1" ∷ codes "ROW 7 NULL NULL" ∷
+        codes "END 102 1 MALFORMED 5 TRUNCATED" ∷ [] }
 {}
 
 /// Bytes behind the last record are told of the next record's number.
@@ -102,9 +106,11 @@ pub fn texts_are_read_from_bytes()
 pub fn bad_transactions_are_malformed()
     ensures open_twice { emp_end (rec 101 (start 1 ∷ start 1 ∷ []) ∷ []) ≡ codes "END 99 0 MALFORMED 2 OPENTWICE" }
     ensures not_open { emp_end (rec 101 (row 1 1 ∷ []) ∷ []) ≡ codes "END 99 0 MALFORMED 2 NOTOPEN" }
-    ensures nothing { emp_end (rec 101 (start 1 ∷ row 1 1 ∷ Undo (one_of 1) ∷ Undo (one_of 1) ∷ []) ∷ []) ≡ codes "END 99 0 MALFORMED 2 NOTHING" }
+    ensures nothing { emp_end (rec 101 (start 1 ∷ row 1 1 ∷ Undo (one_of 1) ∷ Undo (one_of 1) ∷ []) ∷ []) ≡
+        codes "END 99 0 MALFORMED 2 NOTHING" }
     ensures alone { emp_end (rec 101 (start 1 ∷ Commit (one_of 1) ∷ []) ∷ []) ≡ codes "END 99 0 MALFORMED 2 ALONE" }
-    ensures commit_scn { emp_end (rec 101 (start 1 ∷ start 2 ∷ []) ∷ commit 1 ∷ commit 2 ∷ []) ≡ codes "END 102 1 MALFORMED 4 SCN" }
+    ensures commit_scn { emp_end (rec 101 (start 1 ∷ start 2 ∷ []) ∷ commit 1 ∷ commit 2 ∷ []) ≡
+        codes "END 102 1 MALFORMED 4 SCN" }
 {}
 
 /// Rules on a change's table and cells, each with a record that breaks it; and an update that keeps them.
@@ -112,7 +118,8 @@ pub fn bad_changes_are_malformed()
     ensures no_table { emp_end (rec 101 (start 1 ∷ unknown_table ∷ []) ∷ []) ≡ codes "END 99 0 MALFORMED 2 NOTABLE" }
     ensures columns { emp_end (rec 101 (start 1 ∷ short_insert ∷ []) ∷ []) ≡ codes "END 99 0 MALFORMED 2 COLUMNS" }
     ensures types { emp_end (rec 101 (start 1 ∷ mistyped_insert ∷ []) ∷ []) ≡ codes "END 99 0 MALFORMED 2 TYPES" }
-    ensures supplement { emp_end (rec 101 (start 1 ∷ row 1 1 ∷ unlogged_update ∷ []) ∷ []) ≡ codes "END 99 0 MALFORMED 2 SUPPLEMENT" }
+    ensures supplement { emp_end (rec 101 (start 1 ∷ row 1 1 ∷ unlogged_update ∷ []) ∷ []) ≡
+        codes "END 99 0 MALFORMED 2 SUPPLEMENT" }
     ensures logged { emp_end (rec 101 (start 1 ∷ row 1 1 ∷ logged_update ∷ []) ∷ commit 1 ∷ []) ≡ codes "END 102 1 DRAINED" }
 {}
 
@@ -120,7 +127,8 @@ pub fn bad_changes_are_malformed()
 pub fn first_cause_counts()
     ensures scn_before_alone { emp_end (rec 99 (start 1 ∷ Commit (one_of 1) ∷ []) ∷ []) ≡ codes "END 99 0 MALFORMED 2 SCN" }
     ensures not_open_before_table { emp_end (rec 101 (unknown_table ∷ []) ∷ []) ≡ codes "END 99 0 MALFORMED 2 NOTOPEN" }
-    ensures first_vector { emp_end (rec 101 (start 1 ∷ mistyped_insert ∷ start 1 ∷ []) ∷ []) ≡ codes "END 99 0 MALFORMED 2 TYPES" }
+    ensures first_vector { emp_end (rec 101 (start 1 ∷ mistyped_insert ∷ start 1 ∷ []) ∷ []) ≡
+        codes "END 99 0 MALFORMED 2 TYPES" }
 {}
 
 /// An SCN is at least the first of its log, below the next, and not below that of the record before.
@@ -141,7 +149,8 @@ pub fn logs_are_chained()
 pub fn bad_dictionaries_are_malformed()
     ensures twice { dictionary_end (Table emp ∷ Table emp ∷ DictEnd ∷ []) ≡ codes "END 99 0 MALFORMED 1 TWICE" }
     ensures key_column { dictionary_end (Table (keyed ((2 ∷ []) ∷ [])) ∷ []) ≡ codes "END 99 0 MALFORMED 1 KEYS" }
-    ensures equal_keys { dictionary_end (Table (keyed ((0 ∷ []) ∷ (1 ∷ []) ∷ (1 ∷ []) ∷ [])) ∷ []) ≡ codes "END 99 0 MALFORMED 1 KEYS" }
+    ensures equal_keys { dictionary_end (Table (keyed ((0 ∷ []) ∷ (1 ∷ []) ∷ (1 ∷ []) ∷ [])) ∷ []) ≡
+        codes "END 99 0 MALFORMED 1 KEYS" }
     ensures widest_key { dictionary_end (Table (text_keyed 125) ∷ []) ≡ codes "END 99 0 DRAINED" }
     ensures wide_key { dictionary_end (Table (text_keyed 126) ∷ []) ≡ codes "END 99 0 MALFORMED 1 LIMIT" }
     ensures change_before_end { dictionary_end (Table emp ∷ start 1 ∷ []) ≡ codes "END 99 0 MALFORMED 1 DICTIONARY" }
@@ -151,9 +160,12 @@ pub fn bad_dictionaries_are_malformed()
 /// A row of a table with two unique keys is refused at the least of them; a Null is no unique value.
 pub fn unique_values_are_taken()
     ensures second { two_rows (n 1 ∷ n 5 ∷ n 6 ∷ []) (n 2 ∷ n 7 ∷ n 6 ∷ [])
-        ≡ codes "APPLIED_SCN 102" ∷ codes "TABLE T.U 1" ∷ codes "ROW 1 5 6" ∷ codes "END 102 1 MISMATCH 104 4.2 T.U TAKEN 2 (1)" ∷ [] }
-    ensures least { last_line (two_rows (n 1 ∷ n 5 ∷ n 6 ∷ []) (n 2 ∷ n 5 ∷ n 6 ∷ [])) ≡ codes "END 102 1 MISMATCH 104 4.2 T.U TAKEN 1 (1)" }
-    ensures exists_first { last_line (two_rows (n 1 ∷ n 5 ∷ n 6 ∷ []) (n 1 ∷ n 5 ∷ n 6 ∷ [])) ≡ codes "END 102 1 MISMATCH 104 4.2 T.U EXISTS (1)" }
+        ≡ codes "APPLIED_SCN 102" ∷ codes "TABLE T.U 1" ∷ codes "ROW 1 5 6" ∷
+        codes "END 102 1 MISMATCH 104 4.2 T.U TAKEN 2 (1)" ∷ [] }
+    ensures least { last_line (two_rows (n 1 ∷ n 5 ∷ n 6 ∷ []) (n 2 ∷ n 5 ∷ n 6 ∷ [])) ≡
+        codes "END 102 1 MISMATCH 104 4.2 T.U TAKEN 1 (1)" }
+    ensures exists_first { last_line (two_rows (n 1 ∷ n 5 ∷ n 6 ∷ []) (n 1 ∷ n 5 ∷ n 6 ∷ [])) ≡
+        codes "END 102 1 MISMATCH 104 4.2 T.U EXISTS (1)" }
     ensures null { last_line (two_rows (n 1 ∷ Null ∷ n 6 ∷ []) (n 2 ∷ Null ∷ n 7 ∷ [])) ≡ codes "END 104 2 DRAINED" }
 {}
 
@@ -165,7 +177,8 @@ pub fn existing_row_folds()
 /// An update of the primary key moves the row.
 pub fn moved_row_folds()
     ensures moved { emp_fold moved_row Drained
-        ≡ codes "APPLIED_SCN 106" ∷ codes "TABLE HR.EMP 2" ∷ codes "ROW 1 'N' NULL" ∷ codes "ROW 5 'A' NULL" ∷ codes "END 106 3 DRAINED" ∷ [] }
+        ≡ codes "APPLIED_SCN 106" ∷ codes "TABLE HR.EMP 2" ∷ codes "ROW 1 'N' NULL" ∷ codes "ROW 5 'A' NULL" ∷
+        codes "END 106 3 DRAINED" ∷ [] }
 {}
 
 /// The id of a transaction that has ended is used again.
@@ -196,7 +209,8 @@ pub fn skips_pass_changes_over()
 pub fn unknown_transactions_are_passed_over()
     ensures fits { MarkFits 1 99 (emp_entries side_by_side) 2 5 1 }
     ensures known { folded_behind 5
-        ≡ codes "APPLIED_SCN 106" ∷ codes "TABLE HR.EMP 3" ∷ codes "ROW 1 NULL NULL" ∷ codes "ROW 2 NULL NULL" ∷ codes "ROW 3 NULL NULL"
+        ≡ codes "APPLIED_SCN 106" ∷ codes "TABLE HR.EMP 3" ∷ codes "ROW 1 NULL NULL" ∷ codes "ROW 2 NULL NULL" ∷
+        codes "ROW 3 NULL NULL"
         ∷ codes "END 106 3 DRAINED" ∷ [] }
     ensures last { last_line (folded_behind 4) ≡ codes "END 106 3 DRAINED" }
     ensures unknown { last_line (folded_behind 3) ≡ codes "END 103 1 MALFORMED 4 NOTOPEN" }
@@ -237,21 +251,25 @@ pub fn rolled_back_changes_leave_nothing()
 /// A change that an UNDO took back touches nothing any more: another transaction may take its key.
 pub fn undone_change_frees_its_key()
     ensures freed { emp_fold undone_insert Drained
-        ≡ codes "APPLIED_SCN 107" ∷ codes "TABLE HR.EMP 2" ∷ codes "ROW 1 NULL NULL" ∷ codes "ROW 2 'T' NULL" ∷ codes "END 107 2 DRAINED" ∷ [] }
+        ≡ codes "APPLIED_SCN 107" ∷ codes "TABLE HR.EMP 2" ∷ codes "ROW 1 NULL NULL" ∷ codes "ROW 2 'T' NULL" ∷
+        codes "END 107 2 DRAINED" ∷ [] }
 {}
 
 /// Transactions side by side are numbered in the order of their commits.
 pub fn transactions_side_by_side_fold()
     ensures two { emp_fold (cut_short ++ rec 104 (Commit (one_of 2) ∷ []) ∷ []) Drained
-        ≡ codes "APPLIED_SCN 104" ∷ codes "TABLE HR.EMP 2" ∷ codes "ROW 7 NULL NULL" ∷ codes "ROW 8 NULL NULL" ∷ codes "END 104 2 DRAINED" ∷ [] }
+        ≡ codes "APPLIED_SCN 104" ∷ codes "TABLE HR.EMP 2" ∷ codes "ROW 7 NULL NULL" ∷ codes "ROW 8 NULL NULL" ∷
+        codes "END 104 2 DRAINED" ∷ [] }
     ensures three { emp_fold side_by_side Drained
-        ≡ codes "APPLIED_SCN 106" ∷ codes "TABLE HR.EMP 3" ∷ codes "ROW 1 NULL NULL" ∷ codes "ROW 2 NULL NULL" ∷ codes "ROW 3 NULL NULL"
+        ≡ codes "APPLIED_SCN 106" ∷ codes "TABLE HR.EMP 3" ∷ codes "ROW 1 NULL NULL" ∷ codes "ROW 2 NULL NULL" ∷
+        codes "ROW 3 NULL NULL"
         ∷ codes "END 106 3 DRAINED" ∷ [] }
 {}
 
 /// A unique value is a key that is held, an old one too; a Null is none.
 pub fn unique_values_are_locked()
-    ensures new { emp_end (rec 101 (start 1 ∷ with_email 1 5 (codes "e@x") ∷ []) ∷ rec 101 (start 2 ∷ with_email 2 6 (codes "e@x") ∷ []) ∷ [])
+    ensures new { emp_end (rec 101 (start 1 ∷ with_email 1 5 (codes "e@x") ∷ []) ∷
+        rec 101 (start 2 ∷ with_email 2 6 (codes "e@x") ∷ []) ∷ [])
         ≡ codes "END 99 0 MALFORMED 3 LOCK HR.EMP 1 ('e@x') 1.1.1" }
     ensures old { emp_end given_up_value ≡ codes "END 102 1 MALFORMED 5 LOCK HR.EMP 1 ('x@a') 1.1.1" }
     ensures null { emp_end (rec 101 (start 1 ∷ row 1 1 ∷ []) ∷ rec 101 (start 2 ∷ row 2 2 ∷ []) ∷ []) ≡ codes "END 99 0 DRAINED" }
@@ -282,19 +300,23 @@ pub fn longest_text_is_read()
 
 /// Misses of updates and deletes; a row's own unique value is none.
 pub fn updates_and_deletes_miss()
-    ensures absent { emp_end (rec 101 (start 1 ∷ OfChange (delete 1 ((0, n 1) ∷ (1, Null) ∷ (2, Null) ∷ [])) ∷ []) ∷ commit 1 ∷ [])
+    ensures absent { emp_end (rec 101 (start 1 ∷ OfChange (delete 1 ((0, n 1) ∷ (1, Null) ∷ (2, Null) ∷ [])) ∷ [])
+        ∷ commit 1 ∷ [])
         ≡ codes "END 99 0 MISMATCH 102 2.2 HR.EMP ABSENT (1)" }
     ensures least_column { emp_end (rec 101 (start 1 ∷ insert 1 (n 1) (Text (codes "A")) (Text (codes "a@x")) ∷ []) ∷ commit 1
-        ∷ rec 103 (start 2 ∷ OfChange (delete 2 ((0, n 1) ∷ (1, Text (codes "B")) ∷ (2, Null) ∷ [])) ∷ []) ∷ rec 104 (Commit (one_of 2) ∷ []) ∷ [])
+        ∷ rec 103 (start 2 ∷ OfChange (delete 2 ((0, n 1) ∷ (1, Text (codes "B")) ∷ (2, Null) ∷ [])) ∷ []) ∷
+        rec 104 (Commit (one_of 2) ∷ []) ∷ [])
         ≡ codes "END 102 1 MISMATCH 104 4.2 HR.EMP DIFFERS NAME 'B' 'A'" }
     ensures exists { emp_end (rec 101 (start 1 ∷ row 1 1 ∷ row 1 2 ∷ []) ∷ commit 1
         ∷ rec 103 (start 2 ∷ update 2 ((0, n 1) ∷ []) ((0, n 2) ∷ []) ∷ []) ∷ rec 104 (Commit (one_of 2) ∷ []) ∷ [])
         ≡ codes "END 102 1 MISMATCH 104 4.2 HR.EMP EXISTS (2)" }
     ensures taken { emp_end (rec 101 (start 1 ∷ with_email 1 1 (codes "a@x") ∷ with_email 1 2 (codes "b@x") ∷ []) ∷ commit 1
-        ∷ rec 103 (start 2 ∷ update 2 ((0, n 2) ∷ (2, Text (codes "b@x")) ∷ []) ((2, Text (codes "a@x")) ∷ []) ∷ []) ∷ rec 104 (Commit (one_of 2) ∷ []) ∷ [])
+        ∷ rec 103 (start 2 ∷ update 2 ((0, n 2) ∷ (2, Text (codes "b@x")) ∷ []) ((2, Text (codes "a@x")) ∷ []) ∷ []) ∷
+        rec 104 (Commit (one_of 2) ∷ []) ∷ [])
         ≡ codes "END 102 1 MISMATCH 104 4.2 HR.EMP TAKEN 1 (1)" }
     ensures own_value { emp_end (rec 101 (start 1 ∷ with_email 1 1 (codes "a@x") ∷ []) ∷ commit 1
-        ∷ rec 103 (start 2 ∷ update 2 ((0, n 1) ∷ (1, Null) ∷ []) ((1, Text (codes "N")) ∷ []) ∷ []) ∷ rec 104 (Commit (one_of 2) ∷ []) ∷ [])
+        ∷ rec 103 (start 2 ∷ update 2 ((0, n 1) ∷ (1, Null) ∷ []) ((1, Text (codes "N")) ∷ []) ∷ []) ∷
+        rec 104 (Commit (one_of 2) ∷ []) ∷ [])
         ≡ codes "END 104 2 DRAINED" }
 {}
 
@@ -302,27 +324,36 @@ pub fn updates_and_deletes_miss()
 pub fn further_dictionaries()
     ensures id_0 { dictionary_end (Table (record emp { id = 0 }) ∷ DictEnd ∷ []) ≡ codes "END 99 0 DRAINED" }
     ensures twice_by_name { dictionary_end (Table emp ∷ Table (record emp { id = 2 }) ∷ []) ≡ codes "END 99 0 MALFORMED 1 TWICE" }
-    ensures other_schema { dictionary_end (Table emp ∷ Table (record emp { id = 2; schema = codes "HX" }) ∷ []) ≡ codes "END 99 0 DRAINED" }
+    ensures other_schema { dictionary_end (Table emp ∷ Table (record emp { id = 2; schema = codes "HX" }) ∷ []) ≡
+        codes "END 99 0 DRAINED" }
     ensures no_name { dictionary_end (Table (record emp { name = codes "1EMP" }) ∷ []) ≡ codes "END 99 0 MALFORMED 1 NAMES" }
     ensures nullable_key { dictionary_end (Table (record emp { keys = (1 ∷ []) ∷ [] }) ∷ []) ≡ codes "END 99 0 MALFORMED 1 KEYS" }
     ensures widest_row { dictionary_end (Table (wide 6) ∷ []) ≡ codes "END 99 0 DRAINED" }
     ensures wide_row { dictionary_end (Table (wide 7) ∷ []) ≡ codes "END 99 0 MALFORMED 1 LIMIT" }
     ensures table_256 { table_fault (replicate 255 emp) (keyed ((0 ∷ []) ∷ [])) ≡ None }
     ensures table_257 { table_fault (replicate 256 emp) (keyed ((0 ∷ []) ∷ [])) ≡ Some Limit }
-    ensures twice_before_names { dictionary_end (Table emp ∷ Table (record emp { name = codes "1EMP" }) ∷ []) ≡ codes "END 99 0 MALFORMED 1 TWICE" }
-    ensures names_before_keys { dictionary_end (Table (record emp { name = codes "1EMP"; keys = (3 ∷ []) ∷ [] }) ∷ []) ≡ codes "END 99 0 MALFORMED 1 NAMES" }
-    ensures key_of_no_column { dictionary_end (Table (record (text_keyed 126) { keys = (1 ∷ []) ∷ [] }) ∷ []) ≡ codes "END 99 0 MALFORMED 1 KEYS" }
+    ensures twice_before_names { dictionary_end (Table emp ∷ Table (record emp { name = codes "1EMP" }) ∷ []) ≡
+        codes "END 99 0 MALFORMED 1 TWICE" }
+    ensures names_before_keys { dictionary_end (Table (record emp { name = codes "1EMP"; keys = (3 ∷ []) ∷ [] }) ∷ []) ≡
+        codes "END 99 0 MALFORMED 1 NAMES" }
+    ensures key_of_no_column { dictionary_end (Table (record (text_keyed 126) { keys = (1 ∷ []) ∷ [] }) ∷ []) ≡
+        codes "END 99 0 MALFORMED 1 KEYS" }
     ensures late { last_line (fold_lines (fold_of_redo 1 99 late_dictionary Drained)) ≡ codes "END 99 0 MALFORMED 2 DICTIONARY" }
     ensures before_not_open { dictionary_end (Table emp ∷ row 1 1 ∷ []) ≡ codes "END 99 0 MALFORMED 1 DICTIONARY" }
 {}
 
 /// Further pairs of causes of which the first counts.
 pub fn further_first_causes()
-    ensures columns_before_types { emp_end (rec 101 (start 1 ∷ update 1 ((0, Text (codes "one")) ∷ []) [] ∷ []) ∷ []) ≡ codes "END 99 0 MALFORMED 2 COLUMNS" }
-    ensures types_before_supplement { emp_end (rec 101 (start 1 ∷ update 1 ((0, Text (codes "one")) ∷ []) ((1, Null) ∷ []) ∷ []) ∷ []) ≡ codes "END 99 0 MALFORMED 2 TYPES" }
-    ensures not_open_before_scn { emp_end (rec 101 (start 1 ∷ []) ∷ commit 1 ∷ commit 2 ∷ []) ≡ codes "END 102 1 MALFORMED 4 NOTOPEN" }
-    ensures record_before_cut { last_line (emp_fold (rec 101 (row 1 1 ∷ []) ∷ []) (Malformed 3 (Cut Truncated))) ≡ codes "END 99 0 MALFORMED 2 NOTOPEN" }
-    ensures miss_before_bad_record { emp_end (existing_row ++ rec 105 (DictEnd ∷ []) ∷ []) ≡ codes "END 102 1 MISMATCH 104 4.2 HR.EMP EXISTS (1)" }
+    ensures columns_before_types { emp_end (rec 101 (start 1 ∷ update 1 ((0, Text (codes "one")) ∷ []) [] ∷ []) ∷ []) ≡
+        codes "END 99 0 MALFORMED 2 COLUMNS" }
+    ensures types_before_supplement { emp_end (rec 101 (start 1 ∷ update 1 ((0, Text (codes "one")) ∷ []) ((1, Null) ∷ []) ∷ []) ∷
+        []) ≡ codes "END 99 0 MALFORMED 2 TYPES" }
+    ensures not_open_before_scn { emp_end (rec 101 (start 1 ∷ []) ∷ commit 1 ∷ commit 2 ∷ []) ≡
+        codes "END 102 1 MALFORMED 4 NOTOPEN" }
+    ensures record_before_cut { last_line (emp_fold (rec 101 (row 1 1 ∷ []) ∷ []) (Malformed 3 (Cut Truncated))) ≡
+        codes "END 99 0 MALFORMED 2 NOTOPEN" }
+    ensures miss_before_bad_record { emp_end (existing_row ++ rec 105 (DictEnd ∷ []) ∷ []) ≡
+        codes "END 102 1 MISMATCH 104 4.2 HR.EMP EXISTS (1)" }
 {}
 
 /// 2^20 rows may be live, and one more stops the fold.
@@ -334,8 +365,10 @@ pub fn live_rows_have_a_limit()
 /// A change that is skipped waits for nothing, and no change waits for one that is skipped.
 pub fn skipped_changes_do_not_wait()
     ensures kept { watermark_of [] (emp ∷ []) freed_commits 0 (record { rec = 6; vec = 2 }, later_insert) ≡ 2 }
-    ensures skipped { watermark_of (record { rule = Tables (codes "HR.%"); from = 0 } ∷ []) (emp ∷ []) freed_commits 0 (record { rec = 6; vec = 2 }, later_insert) ≡ 0 }
-    ensures other_skipped { watermark_of (record { rule = Transaction (one_of 1); from = 0 } ∷ []) (emp ∷ []) freed_commits 0 (record { rec = 6; vec = 2 }, later_insert) ≡ 1 }
+    ensures skipped { watermark_of (record { rule = Tables (codes "HR.%"); from = 0 } ∷ []) (emp ∷ []) freed_commits 0
+        (record { rec = 6; vec = 2 }, later_insert) ≡ 0 }
+    ensures other_skipped { watermark_of (record { rule = Transaction (one_of 1); from = 0 } ∷ []) (emp ∷ []) freed_commits 0
+        (record { rec = 6; vec = 2 }, later_insert) ≡ 1 }
 {}
 
 /// Further rules on transactions: what stands alone, what has to be open, and which SCNs a COMMIT is above.
@@ -344,8 +377,10 @@ pub fn further_transactions()
     ensures undo_of_none { emp_end (rec 101 (Undo (one_of 1) ∷ []) ∷ []) ≡ codes "END 99 0 MALFORMED 2 NOTOPEN" }
     ensures commit_of_none { emp_end (commit 1 ∷ []) ≡ codes "END 99 0 MALFORMED 2 NOTOPEN" }
     ensures rollback_of_none { emp_end (rec 101 (Rollback (one_of 1) ∷ []) ∷ []) ≡ codes "END 99 0 MALFORMED 2 NOTOPEN" }
-    ensures ended_by_rollback { emp_end (rec 101 (start 1 ∷ []) ∷ rec 102 (Rollback (one_of 1) ∷ []) ∷ rec 103 (row 1 1 ∷ []) ∷ []) ≡ codes "END 99 0 MALFORMED 4 NOTOPEN" }
-    ensures behind_rollback { emp_end (rec 101 (start 1 ∷ start 2 ∷ []) ∷ rec 102 (Rollback (one_of 1) ∷ []) ∷ commit 2 ∷ []) ≡ codes "END 102 1 DRAINED" }
+    ensures ended_by_rollback { emp_end (rec 101 (start 1 ∷ []) ∷ rec 102 (Rollback (one_of 1) ∷ []) ∷ rec 103 (row 1 1 ∷ []) ∷
+        []) ≡ codes "END 99 0 MALFORMED 4 NOTOPEN" }
+    ensures behind_rollback { emp_end (rec 101 (start 1 ∷ start 2 ∷ []) ∷ rec 102 (Rollback (one_of 1) ∷ []) ∷ commit 2 ∷ []) ≡
+        codes "END 102 1 DRAINED" }
     ensures latest_undone { emp_fold (rec 101 (start 1 ∷ row 1 1 ∷ row 1 2 ∷ Undo (one_of 1) ∷ []) ∷ commit 1 ∷ []) Drained
         ≡ codes "APPLIED_SCN 102" ∷ codes "TABLE HR.EMP 1" ∷ codes "ROW 1 NULL NULL" ∷ codes "END 102 1 DRAINED" ∷ [] }
     ensures log_before_its_turn { two_logs_end 190 ≡ codes "END 99 0 MALFORMED 2 CHAIN" }
@@ -353,27 +388,38 @@ pub fn further_transactions()
 
 /// A unique key of two columns of which one is set: what has to be logged, and which key is held.
 pub fn key_of_two_columns_moves()
-    ensures drained { paired_end (rec 103 (start 1 ∷ half_moved half_moved_logged ∷ []) ∷ rec 104 (Commit (one_of 1) ∷ []) ∷ []) ≡ codes "END 104 2 DRAINED" }
-    ensures unlogged { paired_end (rec 103 (start 1 ∷ half_moved ((0, n 1) ∷ (1, n 1) ∷ []) ∷ []) ∷ []) ≡ codes "END 102 1 MALFORMED 4 SUPPLEMENT" }
-    ensures logged_more { emp_end (rec 101 (start 1 ∷ row 1 1 ∷ update 1 ((0, n 1) ∷ (1, Null) ∷ (2, Null) ∷ []) ((1, Text (codes "B")) ∷ []) ∷ []) ∷ [])
+    ensures drained { paired_end (rec 103 (start 1 ∷ half_moved half_moved_logged ∷ []) ∷ rec 104 (Commit (one_of 1) ∷ []) ∷ []) ≡
+        codes "END 104 2 DRAINED" }
+    ensures unlogged { paired_end (rec 103 (start 1 ∷ half_moved ((0, n 1) ∷ (1, n 1) ∷ []) ∷ []) ∷ []) ≡
+        codes "END 102 1 MALFORMED 4 SUPPLEMENT" }
+    ensures logged_more { emp_end (rec 101 (start 1 ∷ row 1 1 ∷
+        update 1 ((0, n 1) ∷ (1, Null) ∷ (2, Null) ∷ []) ((1, Text (codes "B")) ∷ []) ∷ []) ∷ [])
         ≡ codes "END 99 0 MALFORMED 2 SUPPLEMENT" }
-    ensures new_held { paired_end (rec 103 (start 1 ∷ half_moved half_moved_logged ∷ []) ∷ rec 103 (start 2 ∷ insert_all 2 (n 2 ∷ n 2 ∷ n 5 ∷ []) ∷ []) ∷ [])
+    ensures new_held { paired_end (rec 103 (start 1 ∷ half_moved half_moved_logged ∷ []) ∷
+        rec 103 (start 2 ∷ insert_all 2 (n 2 ∷ n 2 ∷ n 5 ∷ []) ∷ []) ∷ [])
         ≡ codes "END 102 1 MALFORMED 5 LOCK T.P 1 (2,5) 1.1.1" }
-    ensures old_held { paired_end (rec 103 (start 1 ∷ half_moved half_moved_logged ∷ []) ∷ rec 103 (start 2 ∷ insert_all 2 (n 2 ∷ n 1 ∷ n 5 ∷ []) ∷ []) ∷ [])
+    ensures old_held { paired_end (rec 103 (start 1 ∷ half_moved half_moved_logged ∷ []) ∷
+        rec 103 (start 2 ∷ insert_all 2 (n 2 ∷ n 1 ∷ n 5 ∷ []) ∷ []) ∷ [])
         ≡ codes "END 102 1 MALFORMED 5 LOCK T.P 1 (1,5) 1.1.1" }
-    ensures unlogged_onto_held { paired_end (rec 103 (start 2 ∷ insert_all 2 (n 2 ∷ n 2 ∷ n 5 ∷ []) ∷ start 1 ∷ half_moved ((0, n 1) ∷ (1, n 1) ∷ []) ∷ []) ∷ [])
+    ensures unlogged_onto_held { paired_end (rec 103 (start 2 ∷ insert_all 2 (n 2 ∷ n 2 ∷ n 5 ∷ []) ∷ start 1 ∷
+        half_moved ((0, n 1) ∷ (1, n 1) ∷ []) ∷ []) ∷ [])
         ≡ codes "END 102 1 MALFORMED 4 SUPPLEMENT" }
 {}
 
 /// Which cells the kinds of a change want, and which column is the last.
 pub fn changes_have_their_cells()
-    ensures old_of_insert { emp_end (rec 101 (start 1 ∷ OfChange (record later_insert { xid = one_of 1; old = (0, n 2) ∷ [] }) ∷ []) ∷ []) ≡ codes "END 99 0 MALFORMED 2 COLUMNS" }
-    ensures new_of_delete { emp_end (rec 101 (start 1 ∷ OfChange (record (delete 1 ((0, n 1) ∷ (1, Null) ∷ (2, Null) ∷ [])) { new = (0, n 1) ∷ [] }) ∷ []) ∷ [])
+    ensures old_of_insert { emp_end (rec 101 (start 1 ∷ OfChange (record later_insert { xid = one_of 1; old = (0, n 2) ∷ [] }) ∷
+        []) ∷ []) ≡ codes "END 99 0 MALFORMED 2 COLUMNS" }
+    ensures new_of_delete { emp_end (rec 101 (start 1 ∷ OfChange
+        (record (delete 1 ((0, n 1) ∷ (1, Null) ∷ (2, Null) ∷ [])) { new = (0, n 1) ∷ [] }) ∷ []) ∷ [])
         ≡ codes "END 99 0 MALFORMED 2 COLUMNS" }
-    ensures short_delete { emp_end (rec 101 (start 1 ∷ OfChange (delete 1 ((0, n 1) ∷ (1, Null) ∷ [])) ∷ []) ∷ []) ≡ codes "END 99 0 MALFORMED 2 COLUMNS" }
-    ensures beyond { emp_end (rec 101 (start 1 ∷ update 1 ((0, n 1) ∷ (3, Null) ∷ []) ((3, Null) ∷ []) ∷ []) ∷ []) ≡ codes "END 99 0 MALFORMED 2 COLUMNS" }
+    ensures short_delete { emp_end (rec 101 (start 1 ∷ OfChange (delete 1 ((0, n 1) ∷ (1, Null) ∷ [])) ∷ []) ∷ []) ≡
+        codes "END 99 0 MALFORMED 2 COLUMNS" }
+    ensures beyond { emp_end (rec 101 (start 1 ∷ update 1 ((0, n 1) ∷ (3, Null) ∷ []) ((3, Null) ∷ []) ∷ []) ∷ []) ≡
+        codes "END 99 0 MALFORMED 2 COLUMNS" }
     ensures differs_before_exists { emp_end (rec 101 (start 1 ∷ insert 1 (n 1) (Text (codes "A")) Null ∷ row 1 2 ∷ []) ∷ commit 1
-        ∷ rec 103 (start 2 ∷ update 2 ((0, n 1) ∷ (1, Text (codes "B")) ∷ []) ((0, n 2) ∷ (1, Null) ∷ []) ∷ []) ∷ rec 104 (Commit (one_of 2) ∷ []) ∷ [])
+        ∷ rec 103 (start 2 ∷ update 2 ((0, n 1) ∷ (1, Text (codes "B")) ∷ []) ((0, n 2) ∷ (1, Null) ∷ []) ∷ []) ∷
+        rec 104 (Commit (one_of 2) ∷ []) ∷ [])
         ≡ codes "END 102 1 MISMATCH 104 4.2 HR.EMP DIFFERS NAME 'B' 'A'" }
 {}
 
@@ -395,13 +441,16 @@ pub fn values_fit_their_columns()
 /// Names of a dictionary, raw keys at their limit, and tables in order of their ids.
 pub fn dictionaries_are_in_order()
     ensures no_schema { dictionary_end (Table (record emp { schema = codes "hr" }) ∷ []) ≡ codes "END 99 0 MALFORMED 1 NAMES" }
-    ensures no_column_name { dictionary_end (Table (record emp { columns = column_of_numbers (codes "ID") ∷ column_of_numbers (codes "_B") ∷ column_of_numbers (codes "C") ∷ [] }) ∷ [])
+    ensures no_column_name { dictionary_end (Table (record emp
+        { columns = column_of_numbers (codes "ID") ∷ column_of_numbers (codes "_B") ∷ column_of_numbers (codes "C") ∷ [] }) ∷ [])
         ≡ codes "END 99 0 MALFORMED 1 NAMES" }
-    ensures column_twice { dictionary_end (Table (record emp { columns = column_of_numbers (codes "ID") ∷ column_of_numbers (codes "B") ∷ column_of_numbers (codes "B") ∷ [] }) ∷ [])
+    ensures column_twice { dictionary_end (Table (record emp
+        { columns = column_of_numbers (codes "ID") ∷ column_of_numbers (codes "B") ∷ column_of_numbers (codes "B") ∷ [] }) ∷ [])
         ≡ codes "END 99 0 MALFORMED 1 NAMES" }
     ensures widest_raw_key { dictionary_end (Table (raw_keyed 125) ∷ []) ≡ codes "END 99 0 DRAINED" }
     ensures wide_raw_key { dictionary_end (Table (raw_keyed 126) ∷ []) ≡ codes "END 99 0 MALFORMED 1 LIMIT" }
-    ensures nullable_unique { dictionary_end (Table (record emp { keys = (0 ∷ []) ∷ (1 ∷ []) ∷ [] }) ∷ DictEnd ∷ []) ≡ codes "END 99 0 DRAINED" }
+    ensures nullable_unique { dictionary_end (Table (record emp { keys = (0 ∷ []) ∷ (1 ∷ []) ∷ [] }) ∷ DictEnd ∷ []) ≡
+        codes "END 99 0 DRAINED" }
     ensures by_id { fold_lines (fold_of_redo 1 99 ((head_of 1, rec 100 (Table audit ∷ Table emp ∷ DictEnd ∷ [])) ∷ []) Drained)
         ≡ codes "APPLIED_SCN 99" ∷ codes "TABLE HR.EMP 0" ∷ codes "TABLE HR.AUDIT 0" ∷ codes "END 99 0 DRAINED" ∷ [] }
 {}
@@ -410,7 +459,8 @@ pub fn dictionaries_are_in_order()
 pub fn further_rules()
     ensures from_commit_2 { folded_under (record { rule = Tables (codes "HR.%"); from = 1 } ∷ []) existing_row
         ≡ codes "APPLIED_SCN 104" ∷ codes "TABLE HR.EMP 1" ∷ codes "ROW 1 NULL NULL" ∷ codes "END 104 2 DRAINED" ∷ [] }
-    ensures from_commit_3 { last_line (folded_under (record { rule = Tables (codes "HR.%"); from = 2 } ∷ []) existing_row) ≡ codes "END 102 1 MISMATCH 104 4.2 HR.EMP EXISTS (1)" }
+    ensures from_commit_3 { last_line (folded_under (record { rule = Tables (codes "HR.%"); from = 2 } ∷ []) existing_row) ≡
+        codes "END 102 1 MISMATCH 104 4.2 HR.EMP EXISTS (1)" }
     ensures longest_part { is_pattern (codes "HR." ++ replicate 30 65) ≡ true }
     ensures long_part { is_pattern (codes "HR." ++ replicate 31 65) ≡ false }
     ensures lower_case { is_pattern (codes "hr.EMP") ≡ false }

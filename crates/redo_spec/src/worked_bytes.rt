@@ -1,7 +1,8 @@
-//! Worked examples of single bytes: each fault of a header, of a record's cut and of a vector's fields, at its place, and the least
-//! and the greatest that is taken.
+//! Worked examples of single bytes: each fault of a header, of a record's cut and of a vector's fields, at its place, and the
+//! least and the greatest that is taken.
 //!
-//! Each function here has an empty body; its clauses hold by computing both sides. The bytes are those of `specs/WorkedBytes.antt`.
+//! Each function here has an empty body; its clauses hold by computing both sides. The bytes are those of
+//! `specs/WorkedBytes.antt`.
 ghost use Rattle.std.specs.Prelude.{◌≡◌, [], ◌∷◌, ◌++◌, slice_set, take, Some, None, Ok, Err};
 ghost use Rattle.rl_value.specs.declared.cause.HeadFault.TheVariants as heads;
 ghost use Rattle.rl_value.specs.declared.cause.CutFault.TheVariants.{Length, Count, Truncated};
@@ -37,7 +38,8 @@ pub fn records_are_cut_within_limits()
     ensures greatest { first_record (be32 65536) ≡ Err Truncated }
     ensures too_long { first_record (be32 65537) ≡ Err Length }
     ensures no_vector { first_record (be32 15 ++ be64 5 ++ be16 0 ++ 9 ∷ []) ≡ Err Count }
-    ensures most_vectors { first_record (be32 15 ++ be64 5 ++ be16 255 ++ 9 ∷ []) ≡ Ok (be32 15 ++ be64 5 ++ be16 255 ++ 9 ∷ [], []) }
+    ensures most_vectors { first_record (be32 15 ++ be64 5 ++ be16 255 ++ 9 ∷ []) ≡
+        Ok (be32 15 ++ be64 5 ++ be16 255 ++ 9 ∷ [], []) }
     ensures too_many { first_record (be32 15 ++ be64 5 ++ be16 256 ++ 9 ∷ []) ≡ Err Count }
     ensures truncated_before_count { first_record (be32 16 ++ be64 5 ++ be16 0 ++ 9 ∷ []) ≡ Err Truncated }
 {}

@@ -35,12 +35,18 @@ xid_sound n bytes x ok e =
     let tc = number_sound w32 (2 ^ 32) wide32 n b.0.1 c.0 tb.0.rest_fits c.1 in
     let two = Takes-then bytes (be16 a.0.0) a.0.1 (be16 b.0.0) b.0.1 ta.0 tb.0 in
     let all = Takes-then bytes (be16 a.0.0 ++ be16 b.0.0) b.0.1 (be32 c.0.0) c.0.1 two tc.0 in
-    subst (λ (y : Xid × List ℕ). Takes bytes (xid y.0) y.1 × IsXid y.0) (ok_is (record { usn = a.0.0; slot = b.0.0; sqn = c.0.0 }, c.0.1) x c.2) (all, record { usn = ta.1; slot = tb.1; sqn = tc.1 })
+    subst (λ (y : Xid × List ℕ). Takes bytes (xid y.0) y.1 × IsXid y.0)
+    (ok_is (record { usn = a.0.0; slot = b.0.0; sqn = c.0.0 }, c.0.1) x c.2)
+    (all, record { usn = ta.1; slot = tb.1; sqn = tc.1 })
 
 pub xid_whole : (n : ℕ) → Whole (xid_at n) xid IsXid
 unfolding xid_at
 xid_whole n x rest ok =
-    rw (number_whole w16 (2 ^ 16) wide16 n x.usn (be16 x.slot ++ (be32 x.sqn ++ rest)) ok.usn, number_whole w16 (2 ^ 16) wide16 n x.slot (be32 x.sqn ++ rest) ok.slot, number_whole w32 (2 ^ 32) wide32 n x.sqn rest ok.sqn) refl
+    rw (
+      number_whole w16 (2 ^ 16) wide16 n x.usn (be16 x.slot ++ (be32 x.sqn ++ rest)) ok.usn,
+      number_whole w16 (2 ^ 16) wide16 n x.slot (be32 x.sqn ++ rest) ok.slot,
+      number_whole w32 (2 ^ 32) wide32 n x.sqn rest ok.sqn,
+    ) refl
 
 -- ---- values
 
@@ -66,15 +72,21 @@ content_whole n t rest ok =
     let short : nat_lt 500 (length t) ≡ false = le-ltb _ _ most in
     rw (number_whole w16 (2 ^ 16) wide16 n (length t) (t ++ rest) (omega arith), nonempty, short) (bytes_whole n t rest)
 
-pub text_sound : (n : ℕ) (bytes : List ℕ) (x : Value × List ℕ) → IsBytes bytes → text_at n bytes ≡ Ok x → (t : List ℕ) × (x.0 ≡ Text t) × Takes bytes (be16 (length t) ++ t) x.1 × (IsText t × AreBytes t)
+pub text_sound : (n : ℕ) (bytes : List ℕ) (x : Value × List ℕ) → IsBytes bytes → text_at n bytes ≡ Ok x → (t : List ℕ) ×
+    (x.0 ≡ Text t) × Takes bytes (be16 (length t) ++ t) x.1 × (IsText t × AreBytes t)
 unfolding text_at
 text_sound n bytes x ok e =
     let a = bind_ok (content_at n bytes) _ x e in
     let ta = content_sound n bytes a.0 ok a.1 in
     let g = held (utf8_valid_len a.0.0 == length a.0.0) _ (Ok (Text a.0.0, a.0.1)) x a.2 in
     let is = ok_is (Text a.0.0, a.0.1) x g.1 in
-    let utf8 = utf8-is a.0.0 (eqb-true _ _ g.0) in
-    (a.0.0, sym (ap (λ (y : Value × List ℕ). y.0) is), subst (λ (r : List ℕ). Takes bytes (be16 (length a.0.0) ++ a.0.0) r) (ap (λ (y : Value × List ℕ). y.1) is) ta.0, (record { some = ta.1.0.some; most = ta.1.0.most; utf8 = utf8 }, ta.1.1))
+    let utf8 = utf8-is a.0.0 (eqb-true _ _ g.0) in (
+      a.0.0,
+      sym (ap (λ (y : Value × List ℕ). y.0) is),
+      subst (λ (r : List ℕ). Takes bytes (be16 (length a.0.0) ++ a.0.0) r)
+          (ap (λ (y : Value × List ℕ). y.1) is) ta.0,
+      (record { some = ta.1.0.some; most = ta.1.0.most; utf8 = utf8 }, ta.1.1),
+    )
 
 pub value_sound : (n : ℕ) → Sound (value_at n) value IsValue
 unfolding value_at
@@ -89,8 +101,10 @@ value_sound n bytes x ok e =
             let z = bind_ok (number_at w64 n a.0.1) _ x h.1 in
             let tz = number_sound w64 (2 ^ 64) wide64 n a.0.1 z.0 ta.0.rest_fits z.1 in
             let back : cast_unsigned w64 (cast_signed w64 z.0.0) ≡ z.0.0 = of_z-to_z w64 z.0.0 tz.1 in
-            let takes : Takes bytes (1 ∷ be64 z.0.0) z.0.1 = tag_then bytes a.0.1 z.0.1 (be64 z.0.0) a.0.0 1 (eqb-true _ _ h.0) ta.0 tz.0 in
-            subst goal (ok_is (Number (cast_signed w64 z.0.0), z.0.1) x z.2) (subst (λ (k : ℕ). Takes bytes (1 ∷ be64 k) z.0.1) (sym back) takes, read_sfits w64 z.0.0)
+            let takes : Takes bytes (1 ∷ be64 z.0.0) z.0.1 =
+            tag_then bytes a.0.1 z.0.1 (be64 z.0.0) a.0.0 1 (eqb-true _ _ h.0) ta.0 tz.0 in
+            subst goal (ok_is (Number (cast_signed w64 z.0.0), z.0.1) x z.2)
+            (subst (λ (k : ℕ). Takes bytes (1 ∷ be64 k) z.0.1) (sym back) takes, read_sfits w64 z.0.0)
         | inr h1 ↦ elim (chosen (a.0.0 == 2) _ _ (Ok x) h1.1) [
           | inl h ↦
               let t = text_sound n a.0.1 x ta.0.rest_fits h.1 in
@@ -135,7 +149,8 @@ cell_sound n from bytes x ok e =
     let tr = byte_sound n bytes r.0 ok r.1 in
     let ta : Takes bytes (a.0.0 ∷ []) a.0.1 = subst (λ (y : ℕ × List ℕ). Takes bytes (y.0 ∷ []) y.1) (ok_is r.0 a.0 g.1) tr.0 in
     let tb = value_sound n a.0.1 b.0 ta.rest_fits b.1 in
-    subst (λ (y : (ℕ × Value) × List ℕ). Takes bytes (cell y.0) y.1 × IsCell from y.0) (ok_is ((a.0.0, b.0.0), b.0.1) x b.2) (Takes-then bytes (a.0.0 ∷ []) a.0.1 (value b.0.0) b.0.1 ta tb.0, (rising_form n from bytes a.0 a.1, tb.1))
+    subst (λ (y : (ℕ × Value) × List ℕ). Takes bytes (cell y.0) y.1 × IsCell from y.0) (ok_is ((a.0.0, b.0.0), b.0.1) x b.2)
+    (Takes-then bytes (a.0.0 ∷ []) a.0.1 (value b.0.0) b.0.1 ta tb.0, (rising_form n from bytes a.0 a.1, tb.1))
 
 pub rising_whole : (n from column : ℕ) (rest : List ℕ) → Rises from column → rising_at n from (column ∷ rest) ≡ Ok (column, rest)
 rising_whole n from column rest ok =
@@ -148,14 +163,16 @@ rising_whole n from column rest ok =
 cell_whole : (n from : ℕ) → Whole (cell_at n from) cell (IsCell from)
 cell_whole n from (column, v) rest ok = rw (rising_whole n from column (value v ++ rest) ok.0, value_whole n v rest ok.1) refl
 
-chain_of : (from : ℕ) (cs : List (ℕ × Value)) → columns_rise from cs ≡ true → AllByRecursion (λ c. IsValue c.1) cs → Chain IsCell after_cell from cs
+chain_of : (from : ℕ) (cs : List (ℕ × Value)) → columns_rise from cs ≡ true → AllByRecursion (λ c. IsValue c.1) cs →
+    Chain IsCell after_cell from cs
 chain_of from [] r ok = tt
 chain_of from (c ∷ cs) r ok =
     let p = and_parts _ _ r in
     let q = and_parts _ _ p.0 in
     ((record { low = leb-true _ _ q.0; high = ltb-true _ _ q.1 }, ok.0), chain_of (c.0 + 1) cs p.1 ok.1)
 
-chain_forms : (from : ℕ) (cs : List (ℕ × Value)) → Chain IsCell after_cell from cs → Chain (λ u c. Rises u c.0) after_cell from cs × AllByRecursion (λ c. IsValue c.1) cs
+chain_forms : (from : ℕ) (cs : List (ℕ × Value)) → Chain IsCell after_cell from cs →
+    Chain (λ u c. Rises u c.0) after_cell from cs × AllByRecursion (λ c. IsValue c.1) cs
 chain_forms from [] h = (tt, tt)
 chain_forms from (c ∷ cs) h = let more = chain_forms (c.0 + 1) cs h.1 in ((h.0.0, more.0), (h.0.1, more.1))
 
@@ -175,7 +192,8 @@ cells_sound n bytes x ok e =
     let a = bind_ok (byte_at n bytes) _ x e in
     let ta = byte_sound n bytes a.0 ok a.1 in
     let g = passed (nat_lt 32 a.0.0) _ _ x a.2 in
-    let tb = items_sound (cell_at n) after_cell cell IsCell (λ u b y k h. cell_sound n u b y k h) a.0.0 0 a.0.1 x ta.0.rest_fits g.1 in
+    let tb = items_sound (cell_at n) after_cell cell IsCell (λ u b y k h. cell_sound n u b y k h) a.0.0 0 a.0.1 x
+    ta.0.rest_fits g.1 in
     let takes = tag_then bytes a.0.1 x.1 (flat_map cell x.0) a.0.0 (length x.0) (sym tb.1.1) ta.0 tb.0 in
     let forms = chain_forms 0 x.0 tb.1.0 in
     (takes, (chain_cells 0 x.0 forms.0, forms.1))
@@ -185,7 +203,8 @@ unfolding cells_at cells_from
 cells_whole n cs rest ok =
     let few : length cs ≤ 32 = (let h = cells_few 0 cs (omega arith) ok.0 in omega arith) in
     let short : nat_lt 32 (length cs) ≡ false = le-ltb _ _ few in
-    rw short (items_whole (cell_at n) after_cell cell IsCell (λ u c r h. cell_whole n u c r h) cs 0 rest (chain_of 0 cs ok.0 ok.1))
+    rw short (items_whole (cell_at n) after_cell cell IsCell (λ u c r h. cell_whole n u c r h) cs 0 rest
+    (chain_of 0 cs ok.0 ok.1))
 
 -- ---- changes
 
@@ -193,7 +212,8 @@ cells_whole n cs rest ok =
 abbrev pub body : Change → List ℕ
 body c = xid c.xid ++ be32 c.table ++ cells c.old ++ cells c.new
 
-pub change_sound : (o : Op) (n : ℕ) (bytes : List ℕ) (x : Change × List ℕ) → IsBytes bytes → change_at o n bytes ≡ Ok x → Takes bytes (body x.0) x.1 × IsChange x.0 × (x.0.op ≡ o)
+pub change_sound : (o : Op) (n : ℕ) (bytes : List ℕ) (x : Change × List ℕ) → IsBytes bytes → change_at o n bytes ≡ Ok x →
+    Takes bytes (body x.0) x.1 × IsChange x.0 × (x.0.op ≡ o)
 unfolding change_at
 change_sound o n bytes x ok e =
     let a = bind_ok (xid_at n bytes) _ x e in
@@ -214,5 +234,11 @@ change_sound o n bytes x ok e =
 pub change_whole : (n : ℕ) (c : Change) (rest : List ℕ) → IsChange c → change_at c.op n (body c ++ rest) ≡ Ok (c, rest)
 unfolding change_at
 change_whole n c rest ok =
-    let regrouped : body c ++ rest ≡ xid c.xid ++ (be32 c.table ++ (cells c.old ++ (cells c.new ++ rest))) = simp append_assoc refl in
-    ap (change_at c.op n) regrouped ∙ rw (xid_whole n c.xid (be32 c.table ++ (cells c.old ++ (cells c.new ++ rest))) ok.xid, number_whole w32 (2 ^ 32) wide32 n c.table (cells c.old ++ (cells c.new ++ rest)) ok.table, cells_whole n c.old (cells c.new ++ rest) ok.old, cells_whole n c.new rest ok.new) refl
+    let regrouped : body c ++ rest ≡ xid c.xid ++ (be32 c.table ++ (cells c.old ++ (cells c.new ++ rest))) =
+    simp append_assoc refl in
+    ap (change_at c.op n) regrouped ∙ rw (
+      xid_whole n c.xid (be32 c.table ++ (cells c.old ++ (cells c.new ++ rest))) ok.xid,
+      number_whole w32 (2 ^ 32) wide32 n c.table (cells c.old ++ (cells c.new ++ rest)) ok.table,
+      cells_whole n c.old (cells c.new ++ rest) ok.old,
+      cells_whole n c.new rest ok.new,
+    ) refl

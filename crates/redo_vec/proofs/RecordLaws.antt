@@ -39,17 +39,21 @@ xid_vector n k make spelled fits bytes rest x t e =
     let a = bind_ok (xid_at n rest) _ x e in
     let ta = xid_sound n rest a.0 t.rest_fits a.1 in
     let takes : Takes bytes (k ∷ xid a.0.0) a.0.1 = Takes-then bytes (k ∷ []) rest (xid a.0.0) a.0.1 t ta.0 in
-    subst (Read_as bytes) (ok_is (make a.0.0, a.0.1) x a.2) (subst (λ (s : List ℕ). Takes bytes s a.0.1) (sym (spelled a.0.0)) takes, fits a.0.0 ta.1)
+    subst (Read_as bytes) (ok_is (make a.0.0, a.0.1) x a.2)
+    (subst (λ (s : List ℕ). Takes bytes s a.0.1) (sym (spelled a.0.0)) takes, fits a.0.0 ta.1)
 
 change_spelled : (c : Change) → change c ≡ op c.op ∷ change_body c
 change_spelled c = refl
 
-change_vector : (n : ℕ) (o : Op) (bytes rest : List ℕ) (x : Vector × List ℕ) → Takes bytes (op o ∷ []) rest → of vectors.Change (change_at o n rest) ≡ Ok x → Read_as bytes x
+change_vector : (n : ℕ) (o : Op) (bytes rest : List ℕ) (x : Vector × List ℕ) → Takes bytes (op o ∷ []) rest →
+    of vectors.Change (change_at o n rest) ≡ Ok x → Read_as bytes x
 change_vector n o bytes rest x t e =
     let a = bind_ok (change_at o n rest) _ x e in
     let ta = change_sound o n rest a.0 t.rest_fits a.1 in
-    let takes : Takes bytes (op o ∷ change_body a.0.0) a.0.1 = Takes-then bytes (op o ∷ []) rest (change_body a.0.0) a.0.1 t ta.0 in
-    let named : Takes bytes (op a.0.0.op ∷ change_body a.0.0) a.0.1 = subst (λ (p : Op). Takes bytes (op p ∷ change_body a.0.0) a.0.1) (sym ta.2) takes in
+    let takes : Takes bytes (op o ∷ change_body a.0.0) a.0.1 =
+    Takes-then bytes (op o ∷ []) rest (change_body a.0.0) a.0.1 t ta.0 in
+    let named : Takes bytes (op a.0.0.op ∷ change_body a.0.0) a.0.1 =
+    subst (λ (p : Op). Takes bytes (op p ∷ change_body a.0.0) a.0.1) (sym ta.2) takes in
     subst (Read_as bytes) (ok_is (vectors.Change a.0.0, a.0.1) x a.2) (named, ta.1)
 
 tagged : (bytes rest : List ℕ) (t k : ℕ) → (t == k) ≡ true → Takes bytes (t ∷ []) rest → Takes bytes (k ∷ []) rest
@@ -71,14 +75,17 @@ vector_sound n bytes x ok e =
             | inr h4 ↦ elim (chosen (a.0.0 == 5) _ _ (Ok x) h4.1) [
               | inl h ↦ xid_vector n 5 vectors.Undo (λ i. refl) (λ i f. f) bytes a.0.1 x (tagged bytes a.0.1 a.0.0 5 h.0 ta) h.1
               | inr h5 ↦ elim (chosen (a.0.0 == 6) _ _ (Ok x) h5.1) [
-                | inl h ↦ xid_vector n 6 vectors.Commit (λ i. refl) (λ i f. f) bytes a.0.1 x (tagged bytes a.0.1 a.0.0 6 h.0 ta) h.1
+                | inl h ↦ xid_vector n 6 vectors.Commit (λ i. refl) (λ i f. f) bytes a.0.1 x
+                    (tagged bytes a.0.1 a.0.0 6 h.0 ta) h.1
                 | inr h6 ↦ elim (chosen (a.0.0 == 7) _ _ (Ok x) h6.1) [
-                  | inl h ↦ xid_vector n 7 vectors.Rollback (λ i. refl) (λ i f. f) bytes a.0.1 x (tagged bytes a.0.1 a.0.0 7 h.0 ta) h.1
+                  | inl h ↦ xid_vector n 7 vectors.Rollback (λ i. refl) (λ i f. f) bytes a.0.1 x
+                      (tagged bytes a.0.1 a.0.0 7 h.0 ta) h.1
                   | inr h7 ↦ elim (chosen (a.0.0 == 8) _ _ (Ok x) h7.1) [
                     | inl h ↦
                         let t = bind_ok (table_at n a.0.1) _ x h.1 in
                         let tt8 = table_sound n a.0.1 t.0 ta.rest_fits t.1 in
-                        let takes : Takes bytes (8 ∷ table_body t.0.0) t.0.1 = Takes-then bytes (8 ∷ []) a.0.1 (table_body t.0.0) t.0.1 (tagged bytes a.0.1 a.0.0 8 h.0 ta) tt8.0 in
+                        let takes : Takes bytes (8 ∷ table_body t.0.0) t.0.1 =
+                        Takes-then bytes (8 ∷ []) a.0.1 (table_body t.0.0) t.0.1 (tagged bytes a.0.1 a.0.0 8 h.0 ta) tt8.0 in
                         subst (Read_as bytes) (ok_is (vectors.Table t.0.0, t.0.1) x t.2) (takes, tt8.1)
                     | inr h8 ↦
                         let g = held (a.0.0 == 9) _ (Ok (vectors.DictEnd, a.0.1)) x h8.1 in
@@ -92,10 +99,13 @@ vector_sound n bytes x ok e =
       ]
     ]
 
-change_read : (n : ℕ) (o : Op) (c : Change) (rest : List ℕ) → c.op ≡ o → IsChange c → change_at o n (change_body c ++ rest) ≡ Ok (c, rest)
-change_read n o c rest e ok = subst (λ (p : Op). change_at p n (change_body c ++ rest) ≡ Ok (c, rest)) e (change_whole n c rest ok)
+change_read : (n : ℕ) (o : Op) (c : Change) (rest : List ℕ) → c.op ≡ o → IsChange c →
+    change_at o n (change_body c ++ rest) ≡ Ok (c, rest)
+change_read n o c rest e ok = subst (λ (p : Op). change_at p n (change_body c ++ rest) ≡ Ok (c, rest)) e
+    (change_whole n c rest ok)
 
-change_as : (n : ℕ) (o : Op) (c : Change) (rest : List ℕ) → c.op ≡ o → IsChange c → vector_at n (op o ∷ (change_body c ++ rest)) ≡ Ok (vectors.Change c, rest)
+change_as : (n : ℕ) (o : Op) (c : Change) (rest : List ℕ) → c.op ≡ o → IsChange c →
+    vector_at n (op o ∷ (change_body c ++ rest)) ≡ Ok (vectors.Change c, rest)
 unfolding vector_at
 change_as n Insert c rest e ok = rw (change_read n Insert c rest e ok) refl
 change_as n Update c rest e ok = rw (change_read n Update c rest e ok) refl
@@ -121,7 +131,8 @@ pub record IsCut (bytes : List ℕ) : Type 0 where
   pub some : 1 ≤ number_in w16 12 bytes
   pub few : number_in w16 12 bytes ≤ 255
 
-took : {A : Type 0} (t : Bool) (f : CutFault) (o : Option CutFault) (x y : A) → refused_by (if t then Some f else o) x ≡ Ok y → (t ≡ false) × (refused_by o x ≡ Ok y)
+took : {A : Type 0} (t : Bool) (f : CutFault) (o : Option CutFault) (x y : A) → refused_by (if t then Some f else o) x ≡ Ok y →
+    (t ≡ false) × (refused_by o x ≡ Ok y)
 took true f o x y e = absurd cc
 took false f o x y e = (refl, e)
 
@@ -151,9 +162,11 @@ cut_of bytes e =
 
 -- ---- records
 
-number_is : (w : Width) (n : ℕ) (bytes : List ℕ) (x : ℕ × List ℕ) → number_at w n bytes ≡ Ok x → (from_be_bytes w (take (byte_len w) bytes) ≡ x.0) × (drop (byte_len w) bytes ≡ x.1)
+number_is : (w : Width) (n : ℕ) (bytes : List ℕ) (x : ℕ × List ℕ) → number_at w n bytes ≡ Ok x →
+    (from_be_bytes w (take (byte_len w) bytes) ≡ x.0) × (drop (byte_len w) bytes ≡ x.1)
 number_is w n bytes x e =
-    let g = passed (nat_lt (length bytes) (byte_len w)) _ (Ok (from_be_bytes w (take (byte_len w) bytes), drop (byte_len w) bytes)) x e in
+    let g = passed (nat_lt (length bytes) (byte_len w)) _
+    (Ok (from_be_bytes w (take (byte_len w) bytes), drop (byte_len w) bytes)) x e in
     let is = ok_is (from_be_bytes w (take (byte_len w) bytes), drop (byte_len w) bytes) x g.1 in
     (ap (λ (y : ℕ × List ℕ). y.0) is, ap (λ (y : ℕ × List ℕ). y.1) is)
 
@@ -170,7 +183,8 @@ front4 (a ∷ b ∷ c ∷ []) = refl
 front4 (a ∷ b ∷ c ∷ d ∷ xs) = refl
 
 -- the numbers of vectors that the cutter and the decoder read are one
-count_is : (n : ℕ) (bytes : List ℕ) (a b c : ℕ × List ℕ) → number_at w32 n bytes ≡ Ok a → number_at w64 n a.1 ≡ Ok b → number_at w16 n b.1 ≡ Ok c → number_in w16 12 bytes ≡ c.0
+count_is : (n : ℕ) (bytes : List ℕ) (a b c : ℕ × List ℕ) → number_at w32 n bytes ≡ Ok a → number_at w64 n a.1 ≡ Ok b →
+    number_at w16 n b.1 ≡ Ok c → number_in w16 12 bytes ≡ c.0
 count_is n bytes a b c p q r =
     let pa = number_is w32 n bytes a p in
     let pb = number_is w64 n a.1 b q in
@@ -178,10 +192,12 @@ count_is n bytes a b c p q r =
     let there : drop 12 bytes ≡ b.1 = sym (drop-drop 8 4 bytes) ∙ ap (drop 8) pa.1 ∙ pb.1 in
     ap (from_be_bytes w16) there ∙ sym (front2 b.1) ∙ pc.0
 
-pub counted : (n : ℕ) (bytes : List ℕ) (a b c : ℕ × List ℕ) → IsCut bytes → number_at w32 n bytes ≡ Ok a → number_at w64 n a.1 ≡ Ok b → number_at w16 n b.1 ≡ Ok c → (1 ≤ c.0) × (c.0 ≤ 255)
+pub counted : (n : ℕ) (bytes : List ℕ) (a b c : ℕ × List ℕ) → IsCut bytes → number_at w32 n bytes ≡ Ok a →
+    number_at w64 n a.1 ≡ Ok b → number_at w16 n b.1 ≡ Ok c → (1 ≤ c.0) × (c.0 ≤ 255)
 counted n bytes a b c cut p q r = let e = count_is n bytes a b c p q r in (rw (← e) cut.some, rw (← e) cut.few)
 
-pub record_sound : (bytes : List ℕ) (r : RedoRec) → IsBytes bytes → IsCut bytes → record_at bytes ≡ Ok r → IsRecord r × (bytes ≡ record_bytes r)
+pub record_sound : (bytes : List ℕ) (r : RedoRec) → IsBytes bytes → IsCut bytes → record_at bytes ≡ Ok r → IsRecord r ×
+    (bytes ≡ record_bytes r)
 unfolding record_at vectors_from
 record_sound bytes r ok cut e =
     let a = bind_ok (number_at w32 (length bytes) bytes) _ r e in
@@ -192,7 +208,8 @@ record_sound bytes r ok cut e =
     let ta = number_sound w32 (2 ^ 32) wide32 (length bytes) bytes a.0 ok a.1 in
     let tb = number_sound w64 (2 ^ 64) wide64 (length bytes) a.0.1 b.0 ta.0.rest_fits b.1 in
     let tc = number_sound w16 (2 ^ 16) wide16 (length bytes) b.0.1 c.0 tb.0.rest_fits c.1 in
-    let td = items_sound (λ _. vector_at (length bytes)) (λ _. 0) vector (λ _. IsVector) (λ u t y k h. vector_sound (length bytes) t y k h) c.0.0 0 c.0.1 d.0 tc.0.rest_fits d.1 in
+    let td = items_sound (λ _. vector_at (length bytes)) (λ _. 0) vector (λ _. IsVector)
+    (λ u t y k h. vector_sound (length bytes) t y k h) c.0.0 0 c.0.1 d.0 tc.0.rest_fits d.1 in
     let limits = counted (length bytes) bytes a.0 b.0 c.0 cut a.1 b.1 c.1 in
     let nothing : d.0.1 ≡ [] = nil_from_length d.0.1 (eqb-true _ _ g.0) in
     let found = d.0.0 in
@@ -200,15 +217,21 @@ record_sound bytes r ok cut e =
     let two = Takes-then bytes (be32 a.0.0) a.0.1 (be64 b.0.0) b.0.1 ta.0 tb.0 in
     let three = Takes-then bytes (be32 a.0.0 ++ be64 b.0.0) b.0.1 (be16 c.0.0) c.0.1 two tc.0 in
     let all = Takes-then bytes (be32 a.0.0 ++ be64 b.0.0 ++ be16 c.0.0) c.0.1 (flat_map vector d.0.0) d.0.1 three td.0 in
-    let whole : bytes ≡ be32 a.0.0 ++ be64 b.0.0 ++ be16 c.0.0 ++ flat_map vector d.0.0 = all.parts ∙ ap (λ (t : List ℕ). (be32 a.0.0 ++ be64 b.0.0 ++ be16 c.0.0 ++ flat_map vector d.0.0) ++ t) nothing ∙ append-nil (be32 a.0.0 ++ be64 b.0.0 ++ be16 c.0.0 ++ flat_map vector d.0.0) in
+    let whole : bytes ≡ be32 a.0.0 ++ be64 b.0.0 ++ be16 c.0.0 ++ flat_map vector d.0.0 =
+    all.parts ∙ ap (λ (t : List ℕ). (be32 a.0.0 ++ be64 b.0.0 ++ be16 c.0.0 ++ flat_map vector d.0.0) ++ t) nothing ∙
+    append-nil (be32 a.0.0 ++ be64 b.0.0 ++ be16 c.0.0 ++ flat_map vector d.0.0) in
     let long : length bytes ≡ 14 + length (flat_map vector d.0.0) = (let h = ap length whole in omega (arith, h)) in
-    let size : a.0.0 ≡ 14 + length (flat_map vector d.0.0) = sym (number_is w32 (length bytes) bytes a.0 a.1).0 ∙ front4 bytes ∙ cut.size ∙ long in
+    let size : a.0.0 ≡ 14 + length (flat_map vector d.0.0) =
+    sym (number_is w32 (length bytes) bytes a.0 a.1).0 ∙ front4 bytes ∙ cut.size ∙ long in
     let made : RedoRec = record { scn = b.0.0; vectors = d.0.0 } in
-    let spelled : bytes ≡ record_bytes made = whole ∙ ap (λ (k : ℕ). be32 k ++ be64 b.0.0 ++ be16 c.0.0 ++ flat_map vector d.0.0) size ∙ ap (λ (k : ℕ). be32 (14 + length (flat_map vector d.0.0)) ++ be64 b.0.0 ++ be16 k ++ flat_map vector d.0.0) (sym td.1.1) in
+    let spelled : bytes ≡ record_bytes made = whole ∙ ap (λ (k : ℕ). be32 k ++ be64 b.0.0 ++ be16 c.0.0 ++ flat_map vector d.0.0)
+    size ∙ ap (λ (k : ℕ). be32 (14 + length (flat_map vector d.0.0)) ++ be64 b.0.0 ++ be16 k ++ flat_map vector d.0.0)
+    (sym td.1.1) in
     let some : 1 ≤ length d.0.0 = rw td.1.1 limits.0 in
     let most : length d.0.0 ≤ 255 = rw td.1.1 limits.1 in
     let short : 14 + length (flat_map vector d.0.0) ≤ 65536 = (let m = cut.most in omega (arith, m, long)) in
-    subst (λ (y : RedoRec). IsRecord y × (bytes ≡ record_bytes y)) (ok_is made r g.1) (record { scn = tb.1; some = some; most = most; vectors = chain_each IsVector d.0.0 0 td.1.0; size = short }, spelled)
+    subst (λ (y : RedoRec). IsRecord y × (bytes ≡ record_bytes y)) (ok_is made r g.1)
+    (record { scn = tb.1; some = some; most = most; vectors = chain_each IsVector d.0.0 0 td.1.0; size = short }, spelled)
 
 pub record_whole : (r : RedoRec) → IsRecord r → record_at (record_bytes r) ≡ Ok r
 unfolding record_at vectors_from
@@ -217,17 +240,23 @@ record_whole r ok =
     let body = flat_map vector r.vectors in
     let short = ok.size in
     let few = ok.most in
-    let read : items_from (λ _. vector_at (length (record_bytes r))) (λ _. 0) (length r.vectors) 0 (flat_map vector r.vectors) ≡ Ok (r.vectors, []) =
-    ap (items_from (λ _. vector_at (length (record_bytes r))) (λ _. 0) (length r.vectors) 0) (sym (append-nil (flat_map vector r.vectors)))
-    ∙ items_whole (λ _. vector_at (length (record_bytes r))) (λ _. 0) vector (λ _. IsVector) (λ u v t h. vector_whole (length (record_bytes r)) v t h) r.vectors 0 [] (each_chain IsVector r.vectors 0 ok.vectors) in
+    let read : items_from (λ _. vector_at (length (record_bytes r))) (λ _. 0) (length r.vectors) 0 (flat_map vector r.vectors) ≡
+    Ok (r.vectors, []) =
+    ap (items_from (λ _. vector_at (length (record_bytes r))) (λ _. 0) (length r.vectors) 0)
+    (sym (append-nil (flat_map vector r.vectors)))
+    ∙ items_whole (λ _. vector_at (length (record_bytes r))) (λ _. 0) vector (λ _. IsVector)
+    (λ u v t h. vector_whole (length (record_bytes r)) v t h) r.vectors 0 [] (each_chain IsVector r.vectors 0 ok.vectors) in
     rw (
-      number_whole w32 (2 ^ 32) wide32 (length (record_bytes r)) (14 + length (flat_map vector r.vectors)) (be64 r.scn ++ (be16 (length r.vectors) ++ flat_map vector r.vectors)) (omega arith),
-      number_whole w64 (2 ^ 64) wide64 (length (record_bytes r)) r.scn (be16 (length r.vectors) ++ flat_map vector r.vectors) ok.scn,
+      number_whole w32 (2 ^ 32) wide32 (length (record_bytes r)) (14 + length (flat_map vector r.vectors))
+          (be64 r.scn ++ (be16 (length r.vectors) ++ flat_map vector r.vectors)) (omega arith),
+      number_whole w64 (2 ^ 64) wide64 (length (record_bytes r)) r.scn
+          (be16 (length r.vectors) ++ flat_map vector r.vectors) ok.scn,
       number_whole w16 (2 ^ 16) wide16 (length (record_bytes r)) (length r.vectors) (flat_map vector r.vectors) (omega arith),
       read,
     ) refl
 
-pub is_found : (bytes : List ℕ) (r : Result RedoRec DecodeFault) → IsBytes bytes → IsCut bytes → Gives (λ x. x) r (record_at bytes) → IfOk r (λ v. IsRecord v × (bytes ≡ record_bytes v))
+pub is_found : (bytes : List ℕ) (r : Result RedoRec DecodeFault) → IsBytes bytes → IsCut bytes →
+    Gives (λ x. x) r (record_at bytes) → IfOk r (λ v. IsRecord v × (bytes ≡ record_bytes v))
 is_found bytes (Ok v) ok cut given = record_sound bytes v ok cut given
 is_found bytes (Err f) ok cut given = tt
 
@@ -235,7 +264,8 @@ is_found bytes (Err f) ok cut given = tt
 pub one_record : (r s : RedoRec) → IsRecord r → IsRecord s → record_bytes r ≡ record_bytes s → r ≡ s
 one_record r s p q e = ok_is r s (sym (record_whole r p) ∙ ap record_at e ∙ record_whole s q)
 
-pub vectors_many : (n count : ℕ) (bytes : List ℕ) (x : List Vector × List ℕ) → items_from (λ _. vector_at n) (λ _. 0) count 0 bytes ≡ Ok x → length x.0 ≡ count
+pub vectors_many : (n count : ℕ) (bytes : List ℕ) (x : List Vector × List ℕ) →
+    items_from (λ _. vector_at n) (λ _. 0) count 0 bytes ≡ Ok x → length x.0 ≡ count
 vectors_many n count bytes x e = (items_have (λ _. vector_at n) (λ _. 0) (λ _ _. Unit {0}) (λ u t y h. tt) count 0 bytes x e).1
 
 -- a record of the length that it tells, and of a count within the limits, is one record to the cutter
@@ -253,5 +283,6 @@ cut_from bytes cut =
     let counted : (number_in w16 12 bytes == 0) ≡ false = ne_eqb _ _ (omega arith) in
     let short : nat_lt 255 (number_in w16 12 bytes) ≡ false = le-ltb _ _ few in
     let took : take (number_in w32 0 bytes) bytes ≡ bytes = take_all (number_in w32 0 bytes) bytes (omega arith) in
-    let none : drop (number_in w32 0 bytes) bytes ≡ [] = nil_from_length _ (omega (arith, length-drop (number_in w32 0 bytes) bytes)) in
+    let none : drop (number_in w32 0 bytes) bytes ≡ [] =
+    nil_from_length _ (omega (arith, length-drop (number_in w32 0 bytes) bytes)) in
     rw (long, low, high, whole, counted, short, took, none) refl

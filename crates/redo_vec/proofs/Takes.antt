@@ -42,11 +42,15 @@ pub record Takes (bytes text rest : List ℕ) : Type 0 where
   pub rest_fits : IsBytes rest
 
 pub Takes-then : (a x b y c : List ℕ) → Takes a x b → Takes b y c → Takes a (x ++ y) c
-Takes-then a x b y c p q = record { parts = p.parts ∙ ap (λ (t : List ℕ). x ++ t) q.parts ∙ sym (append_assoc x y c); rest_fits = q.rest_fits }
+Takes-then a x b y c p q = record {
+  parts = p.parts ∙ ap (λ (t : List ℕ). x ++ t) q.parts ∙ sym (append_assoc x y c);
+  rest_fits = q.rest_fits;
+}
 
 -- a byte that was tested, and what it announces
 pub tag_then : (a b c text : List ℕ) (t k : ℕ) → t ≡ k → Takes a (t ∷ []) b → Takes b text c → Takes a (k ∷ text) c
-tag_then a b c text t k e p q = let both : Takes a (t ∷ text) c = Takes-then a (t ∷ []) b text c p q in subst (λ (n : ℕ). Takes a (n ∷ text) c) e both
+tag_then a b c text t k e p q = let both : Takes a (t ∷ text) c =
+    Takes-then a (t ∷ []) b text c p q in subst (λ (n : ℕ). Takes a (n ∷ text) c) e both
 
 -- what is read is spelled so, and fits
 abbrev pub Sound : {A : Type 0} → (List ℕ → Read A) → (A → List ℕ) → (A → Type 0) → Type 0
@@ -88,33 +92,48 @@ wide64 = record {
   below = λ bytes fits. omega (arith, fits 0, fits 1, fits 2, fits 3, fits 4, fits 5, fits 6, fits 7);
 }
 
-pub number_sound : (w : Width) (limit : ℕ) (wide : IsWide w limit) (size : ℕ) → Sound (number_at w size) (to_be_bytes w) (λ n. n < limit)
+pub number_sound : (w : Width) (limit : ℕ) (wide : IsWide w limit) (size : ℕ) →
+    Sound (number_at w size) (to_be_bytes w) (λ n. n < limit)
 number_sound w limit wide size bytes x fits e =
-    let g = passed (ltb (length bytes) (byte_len w)) _ (Ok (from_be_bytes w (take (byte_len w) bytes), drop (byte_len w) bytes)) x e in
+    let g = passed (ltb (length bytes) (byte_len w)) _ (Ok (from_be_bytes w (take (byte_len w) bytes), drop (byte_len w) bytes)) x
+    e in
     let long : byte_len w ≤ length bytes = ltb-false _ _ g.0 in
-    let front : to_be_bytes w (from_be_bytes w (take (byte_len w) bytes)) ≡ take (byte_len w) bytes = wide.back (take (byte_len w) bytes) (omega (arith, length-take (byte_len w) bytes)) (IsBytes-take (byte_len w) bytes fits) in
-    let takes : Takes bytes (to_be_bytes w (from_be_bytes w (take (byte_len w) bytes))) (drop (byte_len w) bytes) = record { parts = rw front (sym (take-append-drop (byte_len w) bytes)); rest_fits = IsBytes-drop (byte_len w) bytes fits } in
-    subst (λ (y : ℕ × List ℕ). Takes bytes (to_be_bytes w y.0) y.1 × (y.0 < limit)) (ok_is (from_be_bytes w (take (byte_len w) bytes), drop (byte_len w) bytes) x g.1) (takes, wide.below (take (byte_len w) bytes) (IsBytes-take (byte_len w) bytes fits))
+    let front : to_be_bytes w (from_be_bytes w (take (byte_len w) bytes)) ≡ take (byte_len w) bytes =
+    wide.back (take (byte_len w) bytes) (omega (arith, length-take (byte_len w) bytes))
+    (IsBytes-take (byte_len w) bytes fits) in
+    let takes : Takes bytes (to_be_bytes w (from_be_bytes w (take (byte_len w) bytes))) (drop (byte_len w) bytes) =
+    record { parts = rw front (sym (take-append-drop (byte_len w) bytes)); rest_fits = IsBytes-drop (byte_len w) bytes fits }
+    in
+    subst (λ (y : ℕ × List ℕ). Takes bytes (to_be_bytes w y.0) y.1 × (y.0 < limit))
+    (ok_is (from_be_bytes w (take (byte_len w) bytes), drop (byte_len w) bytes) x g.1)
+    (takes, wide.below (take (byte_len w) bytes) (IsBytes-take (byte_len w) bytes fits))
 
-pub number_whole : (w : Width) (limit : ℕ) (wide : IsWide w limit) (size : ℕ) → Whole (number_at w size) (to_be_bytes w) (λ n. n < limit)
+pub number_whole : (w : Width) (limit : ℕ) (wide : IsWide w limit) (size : ℕ) →
+    Whole (number_at w size) (to_be_bytes w) (λ n. n < limit)
 number_whole w limit wide size n rest lt =
     let len = wide.len n in
-    let long : ltb (length (to_be_bytes w n ++ rest)) (byte_len w) ≡ false = le-ltb _ _ (omega (arith, length-append (to_be_bytes w n) rest)) in
-    rw (long, take_at (to_be_bytes w n) rest (byte_len w) len, drop_at (to_be_bytes w n) rest (byte_len w) len, wide.again n lt) refl
+    let long : ltb (length (to_be_bytes w n ++ rest)) (byte_len w) ≡ false =
+    le-ltb _ _ (omega (arith, length-append (to_be_bytes w n) rest)) in
+    rw (long, take_at (to_be_bytes w n) rest (byte_len w) len, drop_at (to_be_bytes w n) rest (byte_len w) len, wide.again n lt)
+    refl
 
 -- ---- bytes
 
 pub byte_sound : (size : ℕ) → Sound (byte_at size) (λ b. b ∷ []) (λ b. b < 256)
 byte_sound size [] x fits e = absurd cc
-byte_sound size (b ∷ bytes) x fits e = subst (λ (y : ℕ × List ℕ). Takes (b ∷ bytes) (y.0 ∷ []) y.1 × (y.0 < 256)) (ok_is (b, bytes) x e) (record { parts = refl; rest_fits = IsBytes-rest b bytes fits }, fits 0)
+byte_sound size (b ∷ bytes) x fits e = subst (λ (y : ℕ × List ℕ). Takes (b ∷ bytes) (y.0 ∷ []) y.1 × (y.0 < 256))
+    (ok_is (b, bytes) x e) (record { parts = refl; rest_fits = IsBytes-rest b bytes fits }, fits 0)
 
 pub bytes_sound : (size count : ℕ) → Sound (bytes_at size count) (λ t. t) (λ t. (length t ≡ count) × AreBytes t)
 bytes_sound size count bytes x fits e =
     let g = passed (ltb (length bytes) count) _ (Ok (take count bytes, drop count bytes)) x e in
     let long : count ≤ length bytes = ltb-false _ _ g.0 in
     let len : length (take count bytes) ≡ count = omega (arith, length-take count bytes) in
-    let takes : Takes bytes (take count bytes) (drop count bytes) = record { parts = sym (take-append-drop count bytes); rest_fits = IsBytes-drop count bytes fits } in
-    subst (λ (y : List ℕ × List ℕ). Takes bytes y.0 y.1 × ((length y.0 ≡ count) × AreBytes y.0)) (ok_is (take count bytes, drop count bytes) x g.1) (takes, (len, are_bytes (take count bytes) (IsBytes-take count bytes fits)))
+    let takes : Takes bytes (take count bytes) (drop count bytes) =
+    record { parts = sym (take-append-drop count bytes); rest_fits = IsBytes-drop count bytes fits } in
+    subst (λ (y : List ℕ × List ℕ). Takes bytes y.0 y.1 × ((length y.0 ≡ count) × AreBytes y.0))
+    (ok_is (take count bytes, drop count bytes) x g.1)
+    (takes, (len, are_bytes (take count bytes) (IsBytes-take count bytes fits)))
 
 pub bytes_whole : (size : ℕ) (text rest : List ℕ) → bytes_at size (length text) (text ++ rest) ≡ Ok (text, rest)
 bytes_whole size text rest =
@@ -123,24 +142,34 @@ bytes_whole size text rest =
 
 -- ---- items
 
-pub items_sound : {A : Type 0} (item : ℕ → List ℕ → Read A) (next : A → ℕ) (spelled : A → List ℕ) (fits : ℕ → A → Type 0) → ((under : ℕ) → Sound (item under) spelled (fits under))
-    → (count under : ℕ) → Sound (items_from item next count under) (flat_map spelled) (λ xs. Chain fits next under xs × (length xs ≡ count))
+pub items_sound : {A : Type 0} (item : ℕ → List ℕ → Read A) (next : A → ℕ) (spelled : A → List ℕ) (fits : ℕ → A → Type 0) →
+    ((under : ℕ) → Sound (item under) spelled (fits under))
+    → (count under : ℕ) → Sound (items_from item next count under) (flat_map spelled)
+    (λ xs. Chain fits next under xs × (length xs ≡ count))
 items_sound item next spelled fits each zero under bytes x ok e =
-    subst (λ (y : List _ × List ℕ). Takes bytes (flat_map spelled y.0) y.1 × (Chain fits next under y.0 × (length y.0 ≡ 0))) (ok_is ([], bytes) x e) (record { parts = refl; rest_fits = ok }, (tt, refl))
+    subst (λ (y : List _ × List ℕ). Takes bytes (flat_map spelled y.0) y.1 × (Chain fits next under y.0 × (length y.0 ≡ 0)))
+    (ok_is ([], bytes) x e) (record { parts = refl; rest_fits = ok }, (tt, refl))
 items_sound item next spelled fits each (suc count) under bytes x ok e =
-    let a = bind_ok (item under bytes) (λ first. items_from item next count (next first.0) first.1 >>= λ more. Ok (first.0 ∷ more.0, more.1)) x e in
+    let a = bind_ok (item under bytes) (λ first. items_from item next count (next first.0) first.1 >>=
+    λ more. Ok (first.0 ∷ more.0, more.1)) x e in
     let b = bind_ok (items_from item next count (next a.0.0) a.0.1) (λ more. Ok (a.0.0 ∷ more.0, more.1)) x a.2 in
     let first = each under bytes a.0 ok a.1 in
     let rest = items_sound item next spelled fits each count (next a.0.0) a.0.1 b.0 first.0.rest_fits b.1 in
     let both = Takes-then bytes (spelled a.0.0) a.0.1 (flat_map spelled b.0.0) b.0.1 first.0 rest.0 in
-    subst (λ (y : List _ × List ℕ). Takes bytes (flat_map spelled y.0) y.1 × (Chain fits next under y.0 × (length y.0 ≡ suc count))) (ok_is (a.0.0 ∷ b.0.0, b.0.1) x b.2) (rw flat_map-cons both, ((first.1, rest.1.0), ap suc rest.1.1))
+    subst (λ (y : List _ × List ℕ). Takes bytes (flat_map spelled y.0) y.1 ×
+    (Chain fits next under y.0 × (length y.0 ≡ suc count))) (ok_is (a.0.0 ∷ b.0.0, b.0.1) x b.2)
+    (rw flat_map-cons both, ((first.1, rest.1.0), ap suc rest.1.1))
 
-pub items_whole : {A : Type 0} (item : ℕ → List ℕ → Read A) (next : A → ℕ) (spelled : A → List ℕ) (fits : ℕ → A → Type 0) → ((under : ℕ) → Whole (item under) spelled (fits under))
-    → (xs : List A) (under : ℕ) (rest : List ℕ) → Chain fits next under xs → items_from item next (length xs) under (flat_map spelled xs ++ rest) ≡ Ok (xs, rest)
+pub items_whole : {A : Type 0} (item : ℕ → List ℕ → Read A) (next : A → ℕ) (spelled : A → List ℕ) (fits : ℕ → A → Type 0) →
+    ((under : ℕ) → Whole (item under) spelled (fits under))
+    → (xs : List A) (under : ℕ) (rest : List ℕ) → Chain fits next under xs →
+    items_from item next (length xs) under (flat_map spelled xs ++ rest) ≡ Ok (xs, rest)
 items_whole item next spelled fits each [] under rest ok = refl
 items_whole item next spelled fits each (x ∷ xs) under rest ok =
-    let regrouped : flat_map spelled (x ∷ xs) ++ rest ≡ spelled x ++ (flat_map spelled xs ++ rest) = ap (λ (t : List ℕ). t ++ rest) (flat_map-cons spelled x xs) ∙ append_assoc (spelled x) (flat_map spelled xs) rest in
-    ap (items_from item next (suc (length xs)) under) regrouped ∙ rw (each under x (flat_map spelled xs ++ rest) ok.0, items_whole item next spelled fits each xs (next x) rest ok.1) refl
+    let regrouped : flat_map spelled (x ∷ xs) ++ rest ≡ spelled x ++ (flat_map spelled xs ++ rest) =
+    ap (λ (t : List ℕ). t ++ rest) (flat_map-cons spelled x xs) ∙ append_assoc (spelled x) (flat_map spelled xs) rest in
+    ap (items_from item next (suc (length xs)) under) regrouped ∙
+    rw (each under x (flat_map spelled xs ++ rest) ok.0, items_whole item next spelled fits each xs (next x) rest ok.1) refl
 
 -- the same fact of each item, whatever it is read under
 pub chain_each : {A : Type 0} (P : A → Type 0) (xs : List A) (under : ℕ) → Chain (λ _. P) (λ _. 0) under xs → AllByRecursion P xs

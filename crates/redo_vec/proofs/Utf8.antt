@@ -29,10 +29,12 @@ pub utf8-is : (bs : List ℕ) → utf8_valid_len bs ≡ length bs → IsUtf8 bs
 unfolding utf8_valid_len
 utf8-is bs e = subst IsUtf8 (take_all (length bs) bs (omega arith)) (up_to_full bs (length bs) e)
 
-pub text_read : (n : ℕ) (bytes text rest : List ℕ) → content_at n bytes ≡ Ok (text, rest) → IsUtf8 text → text_at n bytes ≡ Ok (Text text, rest)
+pub text_read : (n : ℕ) (bytes text rest : List ℕ) → content_at n bytes ≡ Ok (text, rest) → IsUtf8 text →
+    text_at n bytes ≡ Ok (Text text, rest)
 unfolding text_at
 text_read n bytes text rest e u = rw (e, eq-eqb _ _ (utf8_valid_len-IsUtf8 text u)) refl
 
-pub text_refused : (n : ℕ) (bytes text rest : List ℕ) → content_at n bytes ≡ Ok (text, rest) → (IsUtf8 text → ⊥) → text_at n bytes ≡ Err (record { fault = faults.Utf8; place = n - (length text + length rest) })
+pub text_refused : (n : ℕ) (bytes text rest : List ℕ) → content_at n bytes ≡ Ok (text, rest) → (IsUtf8 text → ⊥) →
+    text_at n bytes ≡ Err (record { fault = faults.Utf8; place = n - (length text + length rest) })
 unfolding text_at
 text_refused n bytes text rest e u = rw (e, ne_eqb _ _ (λ h. u (utf8-is text h)), length-append text rest) refl

@@ -39,7 +39,8 @@ abbrev pub fault_at : {A : Type 0} → VecFault → ℕ → List ℕ → Result 
 fault_at fault n left = Err (record { fault = fault; place = n - length left })
 
 abbrev pub number_at : Width → ℕ → List ℕ → Read ℕ
-number_at w n bytes = if nat_lt (length bytes) (byte_len w) then fault_at faults.End n [] else Ok (from_be_bytes w (take (byte_len w) bytes), drop (byte_len w) bytes)
+number_at w n bytes = if nat_lt (length bytes) (byte_len w) then fault_at faults.End n [] else Ok
+    (from_be_bytes w (take (byte_len w) bytes), drop (byte_len w) bytes)
 
 abbrev pub byte_at : ℕ → List ℕ → Read ℕ
 byte_at n [] = fault_at faults.End n []
@@ -142,7 +143,8 @@ unfoldable pub kind_at : ℕ → List ℕ → Read Kind
 kind_at n bytes = do
   kind ← byte_at n bytes
   if kind.0 == 0 || nat_lt 3 kind.0 then fault_at faults.Tag n bytes
-      else (number_at w16 n kind.1 >>= λ size. if is_size_of kind.0 size.0 then Ok (kind_by_number kind.0 size.0, size.1) else fault_at faults.Size n kind.1)
+      else (number_at w16 n kind.1 >>= λ size. if is_size_of kind.0 size.0 then Ok (kind_by_number kind.0 size.0, size.1) else
+      fault_at faults.Size n kind.1)
 
 unfoldable pub flag_at : ℕ → List ℕ → Read Bool
 flag_at n bytes = do

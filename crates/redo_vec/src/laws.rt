@@ -15,6 +15,8 @@ pub fn a_spelled_record_is_read()
 
 /// What is read from bytes that the cutter takes as one record has a spelling, and these bytes are it.
 pub fn a_read_record_is_spelled()
-    ensures fits { (bytes : List ℕ) (rec : RedoRec) → AreBytes bytes → first_record bytes ≡ Ok (bytes, []) → record_at bytes ≡ Ok rec → IsRecord rec }
-    ensures spelled { (bytes : List ℕ) (rec : RedoRec) → AreBytes bytes → first_record bytes ≡ Ok (bytes, []) → record_at bytes ≡ Ok rec → bytes ≡ record_bytes rec }
+    ensures fits { (bytes : List ℕ) (rec : RedoRec) → AreBytes bytes → first_record bytes ≡ Ok (bytes, []) →
+        record_at bytes ≡ Ok rec → IsRecord rec }
+    ensures spelled { (bytes : List ℕ) (rec : RedoRec) → AreBytes bytes → first_record bytes ≡ Ok (bytes, []) →
+        record_at bytes ≡ Ok rec → bytes ≡ record_bytes rec }
 {}

@@ -173,7 +173,8 @@ fn key_list(
     count: u8,
     bytes: &[u8],
 ) -> Result<(Vec<KeyColumns>, &[u8]), DecodeFault>
-    ensures { Gives (λ x. (x.0.items, x.1.now)) result (with_front (primary ∷ []) (items_from (λ _. key_at size) (λ _. 0) count 0 bytes.now)) }
+    ensures { Gives (λ x. (x.0.items, x.1.now)) result (with_front (primary ∷ [])
+        (items_from (λ _. key_at size) (λ _. 0) count 0 bytes.now)) }
 {
     let mut keys = Vec::with_capacity(alloc, 1 + count as usize)?;
     keys.push(primary)?;

@@ -15,25 +15,34 @@ use Rattle.redo_wire.proofs.FirstLaws.{first_more}
 use Rattle.redo_wire.proofs.StreamLaws.{goes_by}
 use Rattle.redo_wire.specs.Stream.{Cut, told_of, left_after, cut_off, with_raws, log_place_behind, raw_of_bytes}
 
-pub one_more : (h : Header) (k : ℕ) (p : LogPlace) (bytes : List ℕ) (size : ℕ) (front : List Raw) → first_record bytes ≡ Ok (take size bytes, drop size bytes)
-    → with_raws front (cut_off h (suc k) p bytes) ≡ with_raws (front ++ raw_of_bytes h p (take size bytes) ∷ []) (cut_off h k (log_place_behind p (take size bytes)) (drop size bytes))
+pub one_more : (h : Header) (k : ℕ) (p : LogPlace) (bytes : List ℕ) (size : ℕ) (front : List Raw) →
+    first_record bytes ≡ Ok (take size bytes, drop size bytes)
+    → with_raws front (cut_off h (suc k) p bytes) ≡ with_raws (front ++ raw_of_bytes h p (take size bytes) ∷ [])
+    (cut_off h k (log_place_behind p (take size bytes)) (drop size bytes))
 one_more h k p bytes size front e =
     let c = cut_off h k (log_place_behind p (take size bytes)) (drop size bytes) in
-    rw e (ap (λ (raws : List Raw). record { raws = raws; place = c.place; left = c.left; cause = c.cause }) (sym (append_assoc front (raw_of_bytes h p (take size bytes) ∷ []) c.raws)))
+    rw e (ap (λ (raws : List Raw). record { raws = raws; place = c.place; left = c.left; cause = c.cause })
+    (sym (append_assoc front (raw_of_bytes h p (take size bytes) ∷ []) c.raws)))
 
 -- The same as a loop has it: `rest` is what is not cut off yet, `items` are the records with the one more.
-pub goes_on_by : (h : Header) (p : LogPlace) (bytes rest : List ℕ) (used size : ℕ) (front items : List Raw) (raw : Raw) (total : Cut) → p.done < h.count → rest ≡ drop used bytes → first_record rest ≡ Ok (take size rest, drop size rest)
+pub goes_on_by : (h : Header) (p : LogPlace) (bytes rest : List ℕ) (used size : ℕ) (front items : List Raw) (raw : Raw)
+    (total : Cut) → p.done < h.count → rest ≡ drop used bytes → first_record rest ≡ Ok (take size rest, drop size rest)
     → size ≤ length rest → raw ≡ raw_of_bytes h p (take size rest) → items ≡ front ++ raw ∷ []
     → with_raws front (cut_off h (h.count - p.done) p (drop used bytes)) ≡ total
-    → with_raws items (cut_off h (h.count - (p.done + 1)) (record { rec = p.rec + 1; at = p.at + size; done = p.done + 1 }) (drop (used + size) bytes)) ≡ total
+    → with_raws items (cut_off h (h.count - (p.done + 1)) (record { rec = p.rec + 1; at = p.at + size; done = p.done + 1 })
+    (drop (used + size) bytes)) ≡ total
 goes_on_by h p bytes rest used size front items raw total lt behind_it e whole is pushed so_far =
     let k : ℕ = h.count - (p.done + 1) in
     let found : List ℕ = take size rest in
     let all : items ≡ front ++ raw_of_bytes h p found ∷ [] = pushed ∙ ap (λ (r : Raw). front ++ r ∷ []) is in
     let later : drop (used + size) bytes ≡ drop size rest = sym (drop-drop size used bytes) ∙ ap (drop size) (sym behind_it) in
-    ap (λ (raws : List Raw). with_raws raws (cut_off h k (record { rec = p.rec + 1; at = p.at + size; done = p.done + 1 }) (drop (used + size) bytes))) all
-    ∙ ap (λ (n : ℕ). with_raws (front ++ raw_of_bytes h p found ∷ []) (cut_off h k (record { rec = p.rec + 1; at = p.at + n; done = p.done + 1 }) (drop (used + size) bytes))) (sym (length-take-le size rest whole))
-    ∙ ap (λ (after : List ℕ). with_raws (front ++ raw_of_bytes h p found ∷ []) (cut_off h k (log_place_behind p found) after)) later
+    ap (λ (raws : List Raw). with_raws raws (cut_off h k (record { rec = p.rec + 1; at = p.at + size; done = p.done + 1 })
+    (drop (used + size) bytes))) all
+    ∙ ap (λ (n : ℕ). with_raws (front ++ raw_of_bytes h p found ∷ [])
+    (cut_off h k (record { rec = p.rec + 1; at = p.at + n; done = p.done + 1 }) (drop (used + size) bytes)))
+    (sym (length-take-le size rest whole))
+    ∙ ap (λ (after : List ℕ). with_raws (front ++ raw_of_bytes h p found ∷ []) (cut_off h k (log_place_behind p found) after))
+    later
     ∙ sym (one_more h k p rest size front e)
     ∙ ap (λ (n : ℕ). with_raws front (cut_off h n p rest)) (let less : suc k ≡ h.count - p.done = omega arith in less)
     ∙ ap (λ (xs : List ℕ). with_raws front (cut_off h (h.count - p.done) p xs)) behind_it
@@ -48,7 +57,12 @@ stops h p rest after fault cause front total lt same e is so_far =
     sym so_far
     ∙ ap (λ (n : ℕ). with_raws front (cut_off h n p after)) k
     ∙ ap (λ (xs : List ℕ). with_raws front (cut_off h (suc (h.count - (p.done + 1))) p xs)) (sym same)
-    ∙ rw e (ap (λ (raws : List Raw). record { raws = raws; place = p; left = left_after (told_of fault) rest; cause = told_of fault })
+    ∙ rw e (ap (λ (raws : List Raw). record {
+      raws = raws;
+      place = p;
+      left = left_after (told_of fault) rest;
+      cause = told_of fault;
+    })
     (append-nil front))
     ∙ ap (λ (o : Option CutFault). record { raws = front; place = p; left = left_after o rest; cause = o }) (sym is)
 
@@ -57,12 +71,15 @@ pub tail : (used : ℕ) (bytes : List ℕ) → take (length bytes - used) (drop 
 tail used bytes = take_all (length bytes - used) (drop used bytes) (omega (arith, length-drop used bytes))
 
 -- the offsets of the records that may still come fit their field
-pub offsets_fit : (at size count done : ℕ) → done < count → size ≤ 65536 → at + 65536 * (count - done) < 2 ^ 64 → at + size + 65536 * (count - (done + 1)) < 2 ^ 64
+pub offsets_fit : (at size count done : ℕ) → done < count → size ≤ 65536 → at + 65536 * (count - done) < 2 ^ 64 →
+    at + size + 65536 * (count - (done + 1)) < 2 ^ 64
 offsets_fit at size count done lt short fits = omega arith
 
-pub still_within : (used size : ℕ) (bytes : List ℕ) → used ≤ length bytes → size ≤ length (take (length bytes - used) (drop used bytes)) → used + size ≤ length bytes
+pub still_within : (used size : ℕ) (bytes : List ℕ) → used ≤ length bytes →
+    size ≤ length (take (length bytes - used) (drop used bytes)) → used + size ≤ length bytes
 still_within used size bytes within whole =
-    let long : size ≤ length bytes - used = subst (λ (n : ℕ). size ≤ n) (ap length (tail used bytes) ∙ length-drop used bytes) whole in
+    let long : size ≤ length bytes - used = subst (λ (n : ℕ). size ≤ n)
+    (ap length (tail used bytes) ∙ length-drop used bytes) whole in
     omega arith
 
 -- nothing is left to cut: what is there is trailing

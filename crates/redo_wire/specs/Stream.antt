@@ -53,7 +53,8 @@ cut_or (Ok found) p bytes next = next found.0 found.1
 abbrev pub cut_off : Header → ℕ → LogPlace → List ℕ → Cut
 cut_off h zero p [] = record { raws = []; place = p; left = []; cause = None }
 cut_off h zero p (b ∷ bytes) = cut_ended_by cuts.Trailing p (b ∷ bytes)
-cut_off h (suc count) p bytes = cut_or (first_record bytes) p bytes (λ found rest. with_raw (raw_of_bytes h p found) (cut_off h count (log_place_behind p found) rest))
+cut_off h (suc count) p bytes = cut_or (first_record bytes) p bytes
+    (λ found rest. with_raw (raw_of_bytes h p found) (cut_off h count (log_place_behind p found) rest))
 
 -- ---- a cutter
 
@@ -90,7 +91,12 @@ told_after false cause = is_some cause
 
 -- the stream after these bytes
 abbrev pub stream_after : Stream → List ℕ → Stream
-stream_after s bytes = record { head = s.head; place = (cut_of_piece s bytes).place; left = (cut_of_piece s bytes).left; fault_told = told_after s.fault_told (cut_of_piece s bytes).cause }
+stream_after s bytes = record {
+  head = s.head;
+  place = (cut_of_piece s bytes).place;
+  left = (cut_of_piece s bytes).left;
+  fault_told = told_after s.fault_told (cut_of_piece s bytes).cause;
+}
 
 -- the records of pieces one after the other, the first fault among them, and the stream behind them
 pub record Run : Type 0 where
@@ -102,7 +108,11 @@ abbrev pub run_of : Stream → List (List ℕ) → Run
 run_of s [] = record { raws = []; cause = None; stream = s }
 run_of s (piece ∷ pieces) =
     let later = run_of (stream_after s piece) pieces in
-    record { raws = (cut_of_piece s piece).raws ++ later.raws; cause = option_or (cut_of_piece s piece).cause later.cause; stream = later.stream }
+    record {
+      raws = (cut_of_piece s piece).raws ++ later.raws;
+      cause = option_or (cut_of_piece s piece).cause later.cause;
+      stream = later.stream;
+    }
 
 -- one cut after another
 abbrev pub joined_cut : Cut → Cut → Cut

@@ -40,7 +40,8 @@ fn place_behind(place: LogPlace, size: usize) -> LogPlace
 
 /// How long the first record is. Truncated says that no whole record is there.
 pub(crate) fn first_of(bytes: &[u8]) -> Result<usize, CutFault>
-    ensures first { MatchResult result (λ size. first_record bytes.now ≡ Ok (take size bytes.now, drop size bytes.now)) (λ fault. first_record bytes.now ≡ Err fault) }
+    ensures first { MatchResult result (λ size. first_record bytes.now ≡ Ok (take size bytes.now, drop size bytes.now))
+        (λ fault. first_record bytes.now ≡ Err fault) }
     ensures whole { IfOk result (λ size. size ≤ length bytes.now) }
     ensures short { IfOk result (λ size. size ≤ MAX_RECORD) }
 {
@@ -118,7 +119,8 @@ fn stop(
     bytes: &[u8],
     cause: Option<CutFault>,
 ) -> Result<Taken, NoMemory>
-    ensures { IfOk result (λ taken. cut_of_taken taken ≡ record { raws = raws.items; place = place; left = left_after cause bytes.now; cause = cause }) }
+    ensures { IfOk result (λ taken. cut_of_taken taken ≡
+        record { raws = raws.items; place = place; left = left_after cause bytes.now; cause = cause }) }
 {
     let left = match cause {
         Some(_) => Vec::new(alloc),
@@ -152,7 +154,8 @@ pub(crate) fn taken_off(
     bytes: &[u8],
 ) -> Result<Taken, NoMemory>
     requires { NumbersFit head start }
-    ensures cut { IfOk result (λ taken. with_raws before.items (cut_off head (head.count - start.done) start bytes.now) ≡ cut_of_taken taken) }
+    ensures cut { IfOk result (λ taken. with_raws before.items (cut_off head (head.count - start.done) start bytes.now) ≡
+        cut_of_taken taken) }
     ensures ready { IfOk result (λ taken. NumbersFit head taken.place) }
 {
     let mut raws = before;
@@ -188,7 +191,8 @@ fn is_one(bytes: &[u8]) -> bool
 
 /// These bytes wait for more: they are the front of a record of the log.
 pub(crate) fn is_front(head: Header, place: LogPlace, bytes: &[u8]) -> bool
-    ensures { IsTrue result → cut_off head (head.count - place.done) place bytes.now ≡ record { raws = []; place = place; left = bytes.now; cause = None } }
+    ensures { IsTrue result → cut_off head (head.count - place.done) place bytes.now ≡
+        record { raws = []; place = place; left = bytes.now; cause = None } }
 {
     place.done < head.count && is_truncated(bytes)
 }
@@ -238,7 +242,8 @@ pub(crate) fn taken_behind(
     rest: &[u8],
 ) -> Result<Taken, NoMemory>
     requires { NumbersFit head start }
-    ensures cut { IfOk result (λ taken. cut_off head (head.count - start.done) start (waiting.now ++ rest.now) ≡ cut_of_taken taken) }
+    ensures cut { IfOk result (λ taken. cut_off head (head.count - start.done) start (waiting.now ++ rest.now) ≡
+        cut_of_taken taken) }
     ensures ready { IfOk result (λ taken. NumbersFit head taken.place) }
 {
     if waiting.is_empty() {

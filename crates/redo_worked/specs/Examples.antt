@@ -30,7 +30,8 @@ use Rattle.redo_spec.specs.Worked.{rec, one_of, start, row, n, emp, head_of, emp
 abbrev pub folded_over : Rows → List Skip → List RedoRec → List (List ℕ)
 folded_over rows skips records =
     let a = admission (beginning 1 99) (no_history 0) (emp_entries records) in
-    fold_lines (folded (record { tables = record { row = emp; rows = rows } ∷ []; n = 0; scn = 99; local = [] }) skips a.history.commits (redo_end a Drained))
+    fold_lines (folded (record { tables = record { row = emp; rows = rows } ∷ []; n = 0; scn = 99; local = [] }) skips
+    a.history.commits (redo_end a Drained))
 
 -- the row of ID 1 with these two texts
 abbrev pub row_one : Value → Value → Rows
@@ -80,11 +81,18 @@ abbrev pub removed_2 : Change
 removed_2 = record { xid = one_of 1; op = Delete; table = 1; old = (0, n 2) ∷ (1, Null) ∷ (2, Null) ∷ []; new = [] }
 
 abbrev pub renamed_1 : Change
-renamed_1 = record { xid = one_of 1; op = Update; table = 1; old = (0, n 1) ∷ (1, Text (codes "A")) ∷ []; new = (1, Text (codes "B")) ∷ [] }
+renamed_1 = record {
+  xid = one_of 1;
+  op = Update;
+  table = 1;
+  old = (0, n 1) ∷ (1, Text (codes "A")) ∷ [];
+  new = (1, Text (codes "B")) ∷ [];
+}
 
 -- the work of the row of ID 2 that comes, done at count 0, and then of this change of record 3, done at this count
 abbrev pub work_behind : Change → ℕ → Result (List Written) Missed
-work_behind change count = work emp_at (emp ∷ []) [] (((record { rec = 2; vec = 2 }, added_2), 0) ∷ ((record { rec = 3; vec = 1 }, change), count) ∷ [])
+work_behind change count = work emp_at (emp ∷ []) [] (((record { rec = 2; vec = 2 }, added_2), 0) ∷
+    ((record { rec = 3; vec = 1 }, change), count) ∷ [])
 
 -- the commit of SCN 104 stops at a change of HR.EMP with this miss
 abbrev pub missed_with : Miss → Verdict

@@ -1,7 +1,8 @@
-//! More worked examples of single bytes: neighbouring faults of a header, of which the first counts, and limits of a table's fields.
+//! More worked examples of single bytes: neighbouring faults of a header, of which the first counts, and limits of a table's
+//! fields.
 //!
-//! Each function here has an empty body; its clauses hold by computing both sides. The bytes are those of `specs/WorkedBytes.antt` of
-//! `redo_spec`.
+//! Each function here has an empty body; its clauses hold by computing both sides. The bytes are those of
+//! `specs/WorkedBytes.antt` of `redo_spec`.
 ghost use Rattle.std.specs.Prelude.{◌≡◌, [], ◌∷◌, slice_set, Some};
 ghost use Rattle.rl_value.specs.declared.cause.HeadFault.TheVariants as heads;
 ghost use Rattle.rl_value.specs.declared.cause.VecFault.TheVariants.{Tag, Cells, Size, End};

@@ -24,11 +24,13 @@ same n = grind (arith, nat_tests)
 next_too : (a b : ℕ) → (a == b) ≡ true → (next_event_number b == next_event_number a) ≡ true
 next_too a b h = let e : a ≡ b = grind (arith, nat_tests) in rw e (same (next_event_number b))
 
-one_more : (c b : ℕ) (line : List ℕ) (es : List (ℕ × List ℕ)) → follow c b es ≡ true → follow (next_event_number c) b (es ++ (next_event_number c, line) ∷ []) ≡ true
+one_more : (c b : ℕ) (line : List ℕ) (es : List (ℕ × List ℕ)) → follow c b es ≡ true →
+    follow (next_event_number c) b (es ++ (next_event_number c, line) ∷ []) ≡ true
 one_more c b line [] h = both _ _ (next_too b c h) (same (next_event_number c))
 one_more c b line (e ∷ es) h = both _ _ (first _ _ h) (one_more c e.0 line es (second _ _ h))
 
-appended : (c : ℕ) (line : List ℕ) (es : List (ℕ × List ℕ)) → are_numbered c es ≡ true → are_numbered (next_event_number c) (es ++ (next_event_number c, line) ∷ []) ≡ true
+appended : (c : ℕ) (line : List ℕ) (es : List (ℕ × List ℕ)) → are_numbered c es ≡ true →
+    are_numbered (next_event_number c) (es ++ (next_event_number c, line) ∷ []) ≡ true
 appended c line [] h = same (next_event_number c)
 appended c line (e ∷ es) h = one_more c e.0 line es h
 
@@ -42,5 +44,7 @@ dropped (suc n) c [] h = refl
 dropped (suc n) c (e ∷ es) h = dropped n c es (rest c e es h)
 
 -- the numbers after one more event
-pub numbered-noted : (c : ℕ) (line : List ℕ) (es : List (ℕ × List ℕ)) → IsTrue (are_numbered c es) → IsTrue (are_numbered (next_event_number c) (keep_last 100 (es ++ (next_event_number c, line) ∷ [])))
-numbered-noted c line es h = dropped (length (es ++ (next_event_number c, line) ∷ []) - 100) (next_event_number c) (es ++ (next_event_number c, line) ∷ []) (appended c line es h)
+pub numbered-noted : (c : ℕ) (line : List ℕ) (es : List (ℕ × List ℕ)) → IsTrue (are_numbered c es) →
+    IsTrue (are_numbered (next_event_number c) (keep_last 100 (es ++ (next_event_number c, line) ∷ [])))
+numbered-noted c line es h = dropped (length (es ++ (next_event_number c, line) ∷ []) - 100) (next_event_number c)
+    (es ++ (next_event_number c, line) ∷ []) (appended c line es h)

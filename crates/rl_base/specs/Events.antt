@@ -17,7 +17,10 @@ next_event_number n = min (n + 1) (2 ^ 64 - 1)
 
 -- one event more
 abbrev pub with_event : List ℕ → Noted → Noted
-with_event line e = record { count = next_event_number e.count; lines = keep_last 100 (e.lines ++ (next_event_number e.count, line) ∷ []) }
+with_event line e = record {
+  count = next_event_number e.count;
+  lines = keep_last 100 (e.lines ++ (next_event_number e.count, line) ∷ []);
+}
 
 -- these lines go on behind the number before, each with the next one, and the last has the number end
 abbrev pub follow : ℕ → ℕ → List (ℕ × List ℕ) → Bool

@@ -21,5 +21,6 @@ chunk_in id None = None
 chunk_in id (Some chunks) = chunk_of chunks id
 
 -- a store that tells, behind a put
-pub chunk-there : (id : ℕ) (bytes : List ℕ) (held new : Chunks) → Some new ≡ Some (with_chunk id bytes held) → IsSome (chunk_of new id)
+pub chunk-there : (id : ℕ) (bytes : List ℕ) (held new : Chunks) → Some new ≡ Some (with_chunk id bytes held) →
+    IsSome (chunk_of new id)
 chunk-there id bytes held new e = subst (λ o. IsSome o) (sym (ap (chunk_in id) e ∙ found id bytes held)) refl

@@ -81,12 +81,14 @@ unnot false c p = rw (sym p) refl
 module _ {K X : Type 0} (R : K → K → Ordering) (o : IsTotalOrder R) where
   -- lists in order
 
-  below_at : (k : K) (es : List (K × X)) (j : ℕ) (d : K × X) → entries.below_all R k es ≡ true → j < length es → R k (get_or es j d).0 ≡ Less
+  below_at : (k : K) (es : List (K × X)) (j : ℕ) (d : K × X) → entries.below_all R k es ≡ true → j < length es →
+      R k (get_or es j d).0 ≡ Less
   below_at k [] j d b lt = absurd (omega arith)
   below_at k (e ∷ es) zero d b lt = less (R k e.0) (first _ _ b)
   below_at k (e ∷ es) (suc j) d b lt = below_at k es j d (second _ _ b) (omega arith)
 
-  later_at : (es : List (K × X)) (i j : ℕ) (d : K × X) → entries.is_sorted R es ≡ true → i < j → j < length es → R (get_or es i d).0 (get_or es j d).0 ≡ Less
+  later_at : (es : List (K × X)) (i j : ℕ) (d : K × X) → entries.is_sorted R es ≡ true → i < j → j < length es →
+      R (get_or es i d).0 (get_or es j d).0 ≡ Less
   later_at [] i j d s h lt = absurd (omega arith)
   later_at (e ∷ es) i zero d s h lt = absurd (omega arith)
   later_at (e ∷ es) zero (suc j) d s h lt = below_at e.0 es j d (first _ _ s) (omega arith)
@@ -104,17 +106,20 @@ module _ {K X : Type 0} (R : K → K → Ordering) (o : IsTotalOrder R) where
 
   -- the two tests by which a list is halved
 
-  pub parted_below : (es : List (K × X)) (k : K) → entries.is_sorted R es ≡ true → IsPartitionedBy (λ (e : K × X). is_lt (R e.0 k)) es
+  pub parted_below : (es : List (K × X)) (k : K) → entries.is_sorted R es ≡ true →
+      IsPartitionedBy (λ (e : K × X). is_lt (R e.0 k)) es
   parted_below es k s i j d h lt p =
       le_cases (nat_lt i j) i j refl h (is_lt (R (get_or es i d).0 k) ≡ true)
       (λ e. subst (λ (n : ℕ). is_lt (R (get_or es n d).0 k) ≡ true) (sym e) p)
       (λ l. is_less _ (o.trans (get_or es i d).0 (get_or es j d).0 k (later_at es i j d s l lt) (less _ p)))
 
-  pub parted_upto : (es : List (K × X)) (k : K) → entries.is_sorted R es ≡ true → IsPartitionedBy (λ (e : K × X). not (is_lt (R k e.0))) es
+  pub parted_upto : (es : List (K × X)) (k : K) → entries.is_sorted R es ≡ true →
+      IsPartitionedBy (λ (e : K × X). not (is_lt (R k e.0))) es
   parted_upto es k s i j d h lt p =
       le_cases (nat_lt i j) i j refl h (not (is_lt (R k (get_or es i d).0)) ≡ true)
       (λ e. subst (λ (n : ℕ). not (is_lt (R k (get_or es n d).0)) ≡ true) (sym e) p)
-      (λ l. not_above _ (λ a. above_not _ (is_less _ (o.trans k (get_or es i d).0 (get_or es j d).0 (less _ a) (later_at es i j d s l lt))) p))
+      (λ l. not_above _ (λ a. above_not _ (is_less _ (o.trans k (get_or es i d).0 (get_or es j d).0 (less _ a)
+      (later_at es i j d s l lt))) p))
 
   pub spot : (es : List (K × X)) (i : ℕ) (k : K) → i ≤ length es
       → IsPartitionPoint (λ (e : K × X). is_lt (R e.0 k) ≡ true) (λ e. is_lt (R e.0 k) ≡ false) es i → IsSpot R i k es
@@ -153,10 +158,12 @@ module _ {K X : Type 0} (R : K → K → Ordering) (o : IsTotalOrder R) where
     others : (k : K) (es : List (K × X)) → entries.below_all R k es ≡ true → filter (λ (e : K × X). not (same e.0 k)) es ≡ es
     others k [] b = refl
     others k (e ∷ es) b =
-        let unlike : same e.0 k ≡ false = ties e.0 k ∙ unlike_greater (R k e.0) (R e.0 k) (o.antisymm e.0 k) (less _ (first _ _ b)) in
+        let unlike : same e.0 k ≡ false = ties e.0 k ∙ unlike_greater (R k e.0) (R e.0 k) (o.antisymm e.0 k)
+        (less _ (first _ _ b)) in
         rw unlike (ap (λ l. e ∷ l) (others k es (second _ _ b)))
 
-    below_head : (k : K) (e : K × X) (es : List (K × X)) → R k e.0 ≡ Less → entries.is_sorted R (e ∷ es) ≡ true → entries.below_all R k (e ∷ es) ≡ true
+    below_head : (k : K) (e : K × X) (es : List (K × X)) → R k e.0 ≡ Less → entries.is_sorted R (e ∷ es) ≡ true →
+        entries.below_all R k (e ∷ es) ≡ true
     below_head k e es h s = both _ _ (is_less _ h) (below_less k e.0 es h (first _ _ s))
 
     -- an entry is dropped where one of its key stands
@@ -164,7 +171,8 @@ module _ {K X : Type 0} (R : K → K → Ordering) (o : IsTotalOrder R) where
     gap_after k [] b = tt
     gap_after k (e ∷ es) b = less _ (first _ _ b)
 
-    pub dropped-there : (i : ℕ) (k : K) (es : List (K × X)) → entries.is_sorted R es ≡ true → IsSpot R i k es → first_is (λ (e : K × X). same e.0 k) (drop i es) ≡ true
+    pub dropped-there : (i : ℕ) (k : K) (es : List (K × X)) → entries.is_sorted R es ≡ true → IsSpot R i k es →
+        first_is (λ (e : K × X). same e.0 k) (drop i es) ≡ true
         → (remove es i ≡ filter (λ (e : K × X). not (same e.0 k)) es) × IsFree R i k (remove es i)
     dropped-there zero k [] s p t = cc
     dropped-there (suc i) k [] s p t = absurd p
@@ -176,7 +184,8 @@ module _ {K X : Type 0} (R : K → K → Ordering) (o : IsTotalOrder R) where
         let rest = dropped-there i k es (second _ _ s) p.1 t in
         (rw unlike (ap (λ l. e ∷ l) rest.0), (p.0, rest.1))
 
-    pub dropped-missing : (i : ℕ) (k : K) (es : List (K × X)) → entries.is_sorted R es ≡ true → IsSpot R i k es → first_is (λ (e : K × X). same e.0 k) (drop i es) ≡ false
+    pub dropped-missing : (i : ℕ) (k : K) (es : List (K × X)) → entries.is_sorted R es ≡ true → IsSpot R i k es →
+        first_is (λ (e : K × X). same e.0 k) (drop i es) ≡ false
         → (es ≡ filter (λ (e : K × X). not (same e.0 k)) es) × IsFree R i k es
     dropped-missing zero k [] s p t = (refl, tt)
     dropped-missing (suc i) k [] s p t = absurd p
@@ -194,7 +203,8 @@ module _ {K X : Type 0} (R : K → K → Ordering) (o : IsTotalOrder R) where
 
     put_step : (r : Ordering) (k : K) (v : X) (e : K × X) (es : List (K × X)) → R k e.0 ≡ r → entries.is_sorted R (e ∷ es) ≡ true
         → entries.put R k v (filter (λ (e : K × X). not (same e.0 k)) es) ≡ entries.put R k v es
-        → entries.put R k v (filter (λ (e : K × X). not (same e.0 k)) (e ∷ es)) ≡ by_order r ((k, v) ∷ e ∷ es) ((e.0, v) ∷ es) (e ∷ entries.put R k v es)
+        → entries.put R k v (filter (λ (e : K × X). not (same e.0 k)) (e ∷ es)) ≡
+        by_order r ((k, v) ∷ e ∷ es) ((e.0, v) ∷ es) (e ∷ entries.put R k v es)
     put_step Less k v e es h s ih =
         let all : filter (λ (e : K × X). not (same e.0 k)) (e ∷ es) ≡ e ∷ es = others k (e ∷ es) (below_head k e es h s) in
         ap (λ l. entries.put R k v l) all ∙ ap (λ r. by_order r ((k, v) ∷ e ∷ es) ((e.0, v) ∷ es) (e ∷ entries.put R k v es)) h
@@ -202,7 +212,8 @@ module _ {K X : Type 0} (R : K → K → Ordering) (o : IsTotalOrder R) where
         let back : R e.0 k ≡ Equal = turned (R k e.0) (R e.0 k) (o.antisymm e.0 k) h in
         let like : same e.0 k ≡ true = ties e.0 k ∙ ap is_eq back in
         let b = below_same k e.0 es back (first _ _ s) in
-        rw like (ap (λ l. entries.put R k v l) (others k es b) ∙ put-first k v es b ∙ ap (λ (q : K). (q, v) ∷ es) (sym (is e.0 k like)))
+        rw like (ap (λ l. entries.put R k v l) (others k es b) ∙ put-first k v es b ∙
+        ap (λ (q : K). (q, v) ∷ es) (sym (is e.0 k like)))
     put_step Greater k v e es h s ih =
         let unlike : same e.0 k ≡ false = ties e.0 k ∙ unlike_turned (R k e.0) (R e.0 k) (o.antisymm e.0 k) h in
         rw (unlike, h) (ap (λ l. e ∷ l) ih)
@@ -215,23 +226,28 @@ module _ {K X : Type 0} (R : K → K → Ordering) (o : IsTotalOrder R) where
 
 -- a test of keys
 
-put_test : {K X : Type 0} (R : K → K → Ordering) (test : K → Bool) (r : Ordering) (k : K) (v : X) (e : K × X) (es : List (K × X)) → test k ≡ true → test e.0 ≡ true
+put_test : {K X : Type 0} (R : K → K → Ordering) (test : K → Bool) (r : Ordering) (k : K) (v : X) (e : K × X) (es : List (K × X))
+    → test k ≡ true → test e.0 ≡ true
     → list_all (λ (e : K × X). test e.0) es ≡ true → list_all (λ (e : K × X). test e.0) (entries.put R k v es) ≡ true
     → list_all (λ (e : K × X). test e.0) (by_order r ((k, v) ∷ e ∷ es) ((e.0, v) ∷ es) (e ∷ entries.put R k v es)) ≡ true
 put_test R test Less k v e es hk he hes ih = both _ _ hk (both _ _ he hes)
 put_test R test Equal k v e es hk he hes ih = both _ _ he hes
 put_test R test Greater k v e es hk he hes ih = both _ _ he ih
 
-pub list_all-put : {K X : Type 0} (R : K → K → Ordering) (test : K → Bool) (k : K) (v : X) (es : List (K × X)) → test k ≡ true → list_all (λ (e : K × X). test e.0) es ≡ true
+pub list_all-put : {K X : Type 0} (R : K → K → Ordering) (test : K → Bool) (k : K) (v : X) (es : List (K × X)) → test k ≡ true →
+    list_all (λ (e : K × X). test e.0) es ≡ true
     → list_all (λ (e : K × X). test e.0) (entries.put R k v es) ≡ true
 list_all-put R test k v [] hk h = both _ _ hk refl
 list_all-put R test k v (e ∷ es) hk h =
     put_test R test (R k e.0) k v e es hk (first _ _ h) (second _ _ h) (list_all-put R test k v es hk (second _ _ h))
 
-filter_test : {X : Type 0} (test kept : X → Bool) (b : Bool) (x : X) (xs : List X) → test x ≡ true → list_all test (filter kept xs) ≡ true → list_all test (cond b (x ∷ filter kept xs) (filter kept xs)) ≡ true
+filter_test : {X : Type 0} (test kept : X → Bool) (b : Bool) (x : X) (xs : List X) → test x ≡ true →
+    list_all test (filter kept xs) ≡ true → list_all test (cond b (x ∷ filter kept xs) (filter kept xs)) ≡ true
 filter_test test kept true x xs h ih = both _ _ h ih
 filter_test test kept false x xs h ih = ih
 
-pub list_all-filter : {X : Type 0} (test kept : X → Bool) (xs : List X) → list_all test xs ≡ true → list_all test (filter kept xs) ≡ true
+pub list_all-filter : {X : Type 0} (test kept : X → Bool) (xs : List X) → list_all test xs ≡ true →
+    list_all test (filter kept xs) ≡ true
 list_all-filter test kept [] h = refl
-list_all-filter test kept (x ∷ xs) h = filter_test test kept (kept x) x xs (first _ _ h) (list_all-filter test kept xs (second _ _ h))
+list_all-filter test kept (x ∷ xs) h = filter_test test kept (kept x) x xs (first _ _ h)
+    (list_all-filter test kept xs (second _ _ h))

@@ -165,7 +165,8 @@ impl Archive for MemArchive {
     /// A read of a log that is not there is a call, and doesn't fail even where it is told to.
     fn read(&mut self, seq: u32, at: u64, into: &mut [u8]) -> Result<usize, Failed>
         ensures fails { IsErr result ↔ IsTrue (is_some (bytes_under self.old.held seq) && fails_next self.old.calls) }
-        ensures counted { self.new.calls ≡ (if is_some (bytes_under self.old.held seq) then after_call self.old.calls else passed self.old.calls) }
+        ensures counted { self.new.calls ≡ (if is_some (bytes_under self.old.held seq) then after_call self.old.calls else passed
+            self.old.calls) }
         ensures held { self.new.held ≡ self.old.held }
         ensures bound { ReadsAtMost result into.new }
         ensures bytes { IfOk result (ReadsFrom (bytes_under self.old.held seq) at into.new) }

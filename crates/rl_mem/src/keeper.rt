@@ -48,7 +48,8 @@ impl SureKeeper {
     }
 
     fn next_pair(&self, area: u8, key: &[u8]) -> Result<Option<Pair>, NoMemory>
-        ensures { IfOk result (λ found. option_map (λ p. ((area, p.key), p.value)) found ≡ next_pair area key.now (pairs_of self.now)) }
+        ensures { IfOk result (λ found. option_map (λ p. ((area, p.key), p.value)) found ≡
+            next_pair area key.now (pairs_of self.now)) }
     {
         pair_after(&self.rows, area, key)
     }
@@ -112,7 +113,8 @@ impl MemKeeper {
         requires keys { IsTrue (have_keys batch.now) }
         requires named { IsTrue (fails_next (calls_of self.old)) }
         ensures refused { IsErr result }
-        ensures kept { IsErrOf result PortFault.Failed → pairs_in self.new ≡ (if keeps_of self.old then after_batch batch.now (pairs_in self.old) else pairs_in self.old) }
+        ensures kept { IsErrOf result PortFault.Failed →
+            pairs_in self.new ≡ (if keeps_of self.old then after_batch batch.now (pairs_in self.old) else pairs_in self.old) }
         ensures memory { IsErrOf result PortFault.Memory → pairs_in self.new ≡ pairs_in self.old }
         ensures counted { UnlessMemory result (calls_of self.new ≡ after_call (calls_of self.old)) }
         ensures memory_counted { IsErrOf result PortFault.Memory → calls_of self.new ≡ passed (calls_of self.old) }
@@ -146,8 +148,10 @@ impl Keeper for MemKeeper {
     fn commit(&mut self, batch: &Batch) -> Result<(), PortFault>
         requires keys { IsTrue (have_keys batch.now) }
         ensures done { OnOk result (Some (pairs_in self.new) ≡ Some (after_batch batch.now (pairs_in self.old))) }
-        ensures failed { IsErrOf result PortFault.Failed → (Some (pairs_in self.new) ≡ Some (pairs_in self.old)) ⊎ (Some (pairs_in self.new) ≡ Some (after_batch batch.now (pairs_in self.old))) }
-        ensures kept { IsErrOf result PortFault.Failed → pairs_in self.new ≡ (if keeps_of self.old then after_batch batch.now (pairs_in self.old) else pairs_in self.old) }
+        ensures failed { IsErrOf result PortFault.Failed → (Some (pairs_in self.new) ≡ Some (pairs_in self.old)) ⊎
+            (Some (pairs_in self.new) ≡ Some (after_batch batch.now (pairs_in self.old))) }
+        ensures kept { IsErrOf result PortFault.Failed →
+            pairs_in self.new ≡ (if keeps_of self.old then after_batch batch.now (pairs_in self.old) else pairs_in self.old) }
         ensures memory { IsErrOf result PortFault.Memory → Some (pairs_in self.new) ≡ Some (pairs_in self.old) }
         ensures fails_only_named { IsErrOf result PortFault.Failed → IsTrue (fails_next (calls_of self.old)) }
         ensures named_is_refused { IsTrue (fails_next (calls_of self.old)) → IsErr result }
@@ -168,7 +172,8 @@ impl Keeper for MemKeeper {
     }
 
     fn after(&mut self, area: u8, key: &[u8]) -> Result<Option<Pair>, PortFault>
-        ensures next { IfOk result (λ found. option_map (λ p. ((area, p.key), p.value)) found ≡ next_pair area key.now (pairs_in self.old)) }
+        ensures next { IfOk result (λ found. option_map (λ p. ((area, p.key), p.value)) found ≡
+            next_pair area key.now (pairs_in self.old)) }
         ensures same { Some (pairs_in self.new) ≡ Some (pairs_in self.old) }
         ensures fails_only_named { IsErrOf result PortFault.Failed → IsTrue (fails_next (calls_of self.old)) }
         ensures named_is_refused { IsTrue (fails_next (calls_of self.old)) → IsErrOf result PortFault.Failed }

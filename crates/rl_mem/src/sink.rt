@@ -67,15 +67,18 @@ impl Sink for MemSink {
 
     /// Takes the whole piece, or fails and takes nothing.
     fn write(&mut self, from: &[u8]) -> Result<usize, Failed>
-        ensures fails { IsErr result ↔ (IsTrue (fails_next self.old.calls) ⊎ (self.old.room < length self.old.bytes + length from.now)) }
+        ensures fails { IsErr result ↔ (IsTrue (fails_next self.old.calls) ⊎
+            (self.old.room < length self.old.bytes + length from.now)) }
         ensures whole { IfOk result (λ count. count ≡ length from.now) }
         ensures room { self.new.room ≡ self.old.room }
-        ensures counted { self.new.calls ≡ (if not (fails_next self.old.calls) && nat_lt self.old.room (length self.old.bytes + length from.now)
+        ensures counted { self.new.calls ≡ (if not (fails_next self.old.calls) &&
+            nat_lt self.old.room (length self.old.bytes + length from.now)
             then after_fault (after_call self.old.calls) else after_call self.old.calls) }
         ensures bound { WritesAtMost result from.now }
         ensures bytes { WriteAppends (Some self.old.bytes) (Some self.new.bytes) result from.now }
         ensures nothing { CountsNothing self.old.calls.faults self.new.calls.faults result from.now }
-        ensures alone { IfOk result (λ count. TookSome from.now count → NoneCounted true self.old.calls.faults self.new.calls.faults) }
+        ensures alone { IfOk result (λ count. TookSome from.now count →
+            NoneCounted true self.old.calls.faults self.new.calls.faults) }
         ensures cause { HasCause self.old.calls.faults self.new.calls.faults result }
     {
         if self.calls.next() {

@@ -31,7 +31,8 @@ pub trait Keeper {
     fn commit(&mut self, batch: &Batch) -> Result<(), PortFault>
         requires keys { IsTrue (have_keys batch.now) }
         ensures done { Told (holds self.old) (λ old. OnOk result (holds self.new ≡ Some (after_batch batch.now old))) }
-        ensures failed { Told (holds self.old) (λ old. IsErrOf result PortFailed → (holds self.new ≡ Some old) ⊎ (holds self.new ≡ Some (after_batch batch.now old))) }
+        ensures failed { Told (holds self.old) (λ old. IsErrOf result PortFailed → (holds self.new ≡ Some old) ⊎
+            (holds self.new ≡ Some (after_batch batch.now old))) }
         ensures memory { IsErrOf result Memory → holds self.new ≡ holds self.old }
         ensures alone { UnlessFailed result (NoneCounted counts_failures_alone (faults self.old) (faults self.new)) }
         ensures cause { HasPortCause (faults self.old) (faults self.new) result };
@@ -39,7 +40,8 @@ pub trait Keeper {
     /// The pair of the least key of the area above this one, or None where there is none. Above the key of no
     /// bytes is every key.
     fn after(&mut self, area: u8, key: &[u8]) -> Result<Option<Pair>, PortFault>
-        ensures next { Told (holds self.old) (λ old. IfOk result (λ found. option_map (λ p. ((area, p.key), p.value)) found ≡ next_pair area key.now old)) }
+        ensures next { Told (holds self.old) (λ old. IfOk result
+            (λ found. option_map (λ p. ((area, p.key), p.value)) found ≡ next_pair area key.now old)) }
         ensures same { holds self.new ≡ holds self.old }
         ensures alone { UnlessFailed result (NoneCounted counts_failures_alone (faults self.old) (faults self.new)) }
         ensures cause { HasPortCause (faults self.old) (faults self.new) result };

@@ -26,6 +26,7 @@ pub trait Sink {
         ensures bound { WritesAtMost result from.now }
         ensures bytes { WriteAppends (written self.old) (written self.new) result from.now }
         ensures nothing { CountsNothing (faults self.old) (faults self.new) result from.now }
-        ensures alone { IfOk result (λ count. TookSome from.now count → NoneCounted counts_failures_alone (faults self.old) (faults self.new)) }
+        ensures alone { IfOk result (λ count. TookSome from.now count →
+            NoneCounted counts_failures_alone (faults self.old) (faults self.new)) }
         ensures cause { HasCause (faults self.old) (faults self.new) result };
 }

@@ -37,7 +37,8 @@ bytes-tail b bs all k d lt = all (suc k) d (omega arith)
 
 -- what is known of a part where the whole has a value
 
-with_byte_some : (b : ℕ) (o : Option (List ℕ)) (text : List ℕ) → with_byte b o ≡ Some text → (rest : List ℕ) × (o ≡ Some rest) × (text ≡ b ∷ rest)
+with_byte_some : (b : ℕ) (o : Option (List ℕ)) (text : List ℕ) → with_byte b o ≡ Some text → (rest : List ℕ) × (o ≡ Some rest) ×
+    (text ≡ b ∷ rest)
 with_byte_some b None text e = cc
 with_byte_some b (Some rest) text e = (rest, refl, cc)
 
@@ -48,7 +49,8 @@ with_pair_some (Some h) None o bytes e = cc
 with_pair_some (Some h) (Some l) None bytes e = cc
 with_pair_some (Some h) (Some l) (Some rest) bytes e = (h, l, rest, refl, refl, refl, cc)
 
-and_then_some : (f : List ℕ → Option Value) (o : Option (List ℕ)) (v : Value) → option_and_then f o ≡ Some v → (bytes : List ℕ) × (o ≡ Some bytes) × (f bytes ≡ Some v)
+and_then_some : (f : List ℕ → Option Value) (o : Option (List ℕ)) (v : Value) → option_and_then f o ≡ Some v → (bytes : List ℕ) ×
+    (o ≡ Some bytes) × (f bytes ≡ Some v)
 and_then_some f None v e = cc
 and_then_some f (Some bytes) v e = (bytes, refl, e)
 
@@ -78,13 +80,15 @@ text-from_test bytes e =
 
 -- quoted texts
 
-quoted_step : (t : Bool) (b : ℕ) (text more end : List ℕ) → (b == 39) ≡ t → is_printed b ≡ true → unquoted false (more ++ end) ≡ Some text
+quoted_step : (t : Bool) (b : ℕ) (text more end : List ℕ) → (b == 39) ≡ t → is_printed b ≡ true →
+    unquoted false (more ++ end) ≡ Some text
     → unquoted false (((if t then quote ∷ quote ∷ [] else b ∷ []) ++ more) ++ end) ≡ Some (b ∷ text)
 quoted_step true b text more end is printed rest =
     let same : b ≡ 39 = grind (arith, nat_tests) in rw (rest, same) refl
 quoted_step false b text more end is printed rest = rw (is, printed, rest) refl
 
-unquoted-quoted : (text : List ℕ) → IsTrue (list_all is_printed text) → unquoted false (flat_map quoted_byte text ++ quote ∷ []) ≡ Some text
+unquoted-quoted : (text : List ℕ) → IsTrue (list_all is_printed text) →
+    unquoted false (flat_map quoted_byte text ++ quote ∷ []) ≡ Some text
 unquoted-quoted [] p = refl
 unquoted-quoted (b ∷ text) p =
     quoted_step (b == 39) b text (flat_map quoted_byte text) (quote ∷ []) refl (first _ _ p) (unquoted-quoted text (second _ _ p))
@@ -94,7 +98,8 @@ Spells : Bool → List ℕ → List ℕ → Type 0
 Spells true rest text = (quote ∷ rest ≡ flat_map quoted_byte text ++ quote ∷ []) × IsTrue (list_all is_printed text)
 Spells false rest text = (rest ≡ flat_map quoted_byte text ++ quote ∷ []) × IsTrue (list_all is_printed text)
 
-own_quote : (t : Bool) (b : ℕ) (rest text : List ℕ) → (b == 39) ≡ t → (if t then with_byte quote (unquoted false rest) else None) ≡ Some text
+own_quote : (t : Bool) (b : ℕ) (rest text : List ℕ) → (b == 39) ≡ t →
+    (if t then with_byte quote (unquoted false rest) else None) ≡ Some text
     → ((after : List ℕ) → unquoted false rest ≡ Some after → Spells false rest after) → Spells true (b ∷ rest) text
 unfolding Spells
 own_quote true b rest text is e ih =
@@ -104,7 +109,8 @@ own_quote true b rest text is e ih =
     rw (w.2, same) (ap (λ l. quote ∷ quote ∷ l) s.0, s.1)
 own_quote false b rest text is e ih = cc
 
-own_byte : (t u : Bool) (b : ℕ) (rest text : List ℕ) → (b == 39) ≡ t → is_printed b ≡ u → (if t then unquoted true rest else if u then with_byte b (unquoted false rest) else None) ≡ Some text
+own_byte : (t u : Bool) (b : ℕ) (rest text : List ℕ) → (b == 39) ≡ t → is_printed b ≡ u →
+    (if t then unquoted true rest else if u then with_byte b (unquoted false rest) else None) ≡ Some text
     → ((after : List ℕ) → unquoted true rest ≡ Some after → Spells true rest after)
     → ((after : List ℕ) → unquoted false rest ≡ Some after → Spells false rest after) → Spells false (b ∷ rest) text
 unfolding Spells
@@ -125,16 +131,19 @@ spells [] false text e = cc
 spells (b ∷ rest) true text e = own_quote (b == 39) b rest text refl e (spells rest false)
 spells (b ∷ rest) false text e = own_byte (b == 39) (is_printed b) b rest text refl refl e (spells rest true) (spells rest false)
 
-spelled : (rest text : List ℕ) → unquoted false rest ≡ Some text → (rest ≡ flat_map quoted_byte text ++ quote ∷ []) × IsTrue (list_all is_printed text)
+spelled : (rest text : List ℕ) → unquoted false rest ≡ Some text → (rest ≡ flat_map quoted_byte text ++ quote ∷ []) ×
+    IsTrue (list_all is_printed text)
 unfolding Spells
 spelled rest text e = spells rest false text e
 
-bytes_step : (t : Bool) (b : ℕ) (text more end : List ℕ) → (b == 39) ≡ t → AreBytes (((if t then quote ∷ quote ∷ [] else b ∷ []) ++ more) ++ end)
+bytes_step : (t : Bool) (b : ℕ) (text more end : List ℕ) → (b == 39) ≡ t →
+    AreBytes (((if t then quote ∷ quote ∷ [] else b ∷ []) ++ more) ++ end)
     → (AreBytes (more ++ end) → AreBytes text) → AreBytes (b ∷ text)
 bytes_step true b text more end is all rest =
     let same : b ≡ 39 = grind (arith, nat_tests) in
     bytes-cons b text (omega arith) (rest (bytes-tail quote (more ++ end) (bytes-tail quote (quote ∷ (more ++ end)) all)))
-bytes_step false b text more end is all rest = bytes-cons b text (bytes-head b (more ++ end) all) (rest (bytes-tail b (more ++ end) all))
+bytes_step false b text more end is all rest = bytes-cons b text (bytes-head b (more ++ end) all)
+    (rest (bytes-tail b (more ++ end) all))
 
 bytes-quoted : (text end : List ℕ) → AreBytes (flat_map quoted_byte text ++ end) → AreBytes text
 bytes-quoted [] end all = bytes-nil
@@ -159,7 +168,8 @@ digit_step false n is h =
 hex_value-digit : (n : ℕ) → n < 16 → hex_value (hex_digit n) ≡ Some n
 hex_value-digit n h = digit_step (nat_lt n 10) n refl h
 
-is_digit : (t u : Bool) (c d : ℕ) → (nat_le 48 c && nat_le c 57) ≡ t → (nat_le 65 c && nat_le c 70) ≡ u → (if t then Some (c - 48) else if u then Some (c - 55) else None) ≡ Some d
+is_digit : (t u : Bool) (c d : ℕ) → (nat_le 48 c && nat_le c 57) ≡ t → (nat_le 65 c && nat_le c 70) ≡ u →
+    (if t then Some (c - 48) else if u then Some (c - 55) else None) ≡ Some d
     → (hex_digit d ≡ c) × (d < 16)
 is_digit true u c d is letter e =
     let low : 48 ≤ c = le_from _ 48 c refl (first (nat_le 48 c) (nat_le c 57) is) in
@@ -188,7 +198,8 @@ unhexed-hex (b ∷ bytes) all =
     let whole : 16 * (b / 16) + b % 16 ≡ b = omega arith in
     rw (high, low, rest) (ap (λ n. Some (n ∷ bytes)) whole)
 
-last_byte : (t : Bool) (b : ℕ) (bytes : List ℕ) → (b == 39) ≡ t → (if t then Some [] else None) ≡ Some bytes → (b ∷ [] ≡ hex bytes ++ quote ∷ []) × AreBytes bytes
+last_byte : (t : Bool) (b : ℕ) (bytes : List ℕ) → (b == 39) ≡ t → (if t then Some [] else None) ≡ Some bytes →
+    (b ∷ [] ≡ hex bytes ++ quote ∷ []) × AreBytes bytes
 last_byte true b bytes is e =
     let same : b ≡ 39 = grind (arith, nat_tests) in
     let none : bytes ≡ [] = cc in
@@ -207,20 +218,23 @@ hexed (h ∷ l ∷ rest) bytes e =
     let low : (16 * w.0 + w.1) % 16 ≡ w.1 = omega (arith, y.1) in
     rw (w.6, high, low, x.0, y.0) (ap (λ t. h ∷ l ∷ t) s.0, bytes-cons _ _ (omega (arith, x.1, y.1)) s.1)
 
-in_quotes : (t : Bool) (b : ℕ) (rest bytes : List ℕ) → (b == 39) ≡ t → (if t then unhexed rest else None) ≡ Some bytes → (b ∷ rest ≡ quote ∷ hex bytes ++ quote ∷ []) × AreBytes bytes
+in_quotes : (t : Bool) (b : ℕ) (rest bytes : List ℕ) → (b == 39) ≡ t → (if t then unhexed rest else None) ≡ Some bytes →
+    (b ∷ rest ≡ quote ∷ hex bytes ++ quote ∷ []) × AreBytes bytes
 in_quotes true b rest bytes is e =
     let same : b ≡ 39 = grind (arith, nat_tests) in
     let s = hexed rest bytes e in
     rw same (ap (λ l. quote ∷ l) s.0, s.1)
 in_quotes false b rest bytes is e = cc
 
-hexed_in_quotes : (rest bytes : List ℕ) → unhexed_in_quotes rest ≡ Some bytes → (rest ≡ quote ∷ hex bytes ++ quote ∷ []) × AreBytes bytes
+hexed_in_quotes : (rest bytes : List ℕ) → unhexed_in_quotes rest ≡ Some bytes →
+    (rest ≡ quote ∷ hex bytes ++ quote ∷ []) × AreBytes bytes
 hexed_in_quotes [] bytes e = cc
 hexed_in_quotes (b ∷ rest) bytes e = in_quotes (b == 39) b rest bytes refl e
 
 -- numbers
 
-digits_value-signed : (c : ℕ) (cs : List ℕ) → AllDigits 10 (c ∷ cs) → signed_digits_value 10 (c ∷ cs) ≡ pos (digits_value 10 (c ∷ cs))
+digits_value-signed : (c : ℕ) (cs : List ℕ) → AllDigits 10 (c ∷ cs) →
+    signed_digits_value 10 (c ∷ cs) ≡ pos (digits_value 10 (c ∷ cs))
 digits_value-signed c cs d =
     let low = digit_from_value c d.0 in
     let minus : (c == 45) ≡ false = same_false c 45 (omega arith) in
@@ -228,7 +242,8 @@ digits_value-signed c cs d =
     rw (minus, plus) refl
 
 -- bytes that begin as a number does are read as one
-number_read : (c : ℕ) (cs : List ℕ) (z : ℤ) → c < 58 → 39 < c → signed_digits_value 10 (c ∷ cs) ≡ z → mag z < 2 ^ 63 → signed_decimal z ≡ c ∷ cs
+number_read : (c : ℕ) (cs : List ℕ) (z : ℤ) → c < 58 → 39 < c → signed_digits_value 10 (c ∷ cs) ≡ z → mag z < 2 ^ 63 →
+    signed_decimal z ≡ c ∷ cs
     → value_of_literal (c ∷ cs) ≡ Some (Number z)
 number_read c cs z high low v h e =
     let null : (c == 78) ≡ false = same_false c 78 (omega arith) in
@@ -237,7 +252,8 @@ number_read c cs z high low v h e =
     let raw : (c == 88) ≡ false = same_false c 88 (omega arith) in
     rw (null, quotes, text, raw) (some_number (c ∷ cs) z v h e)
 
-digits_read : (ds : List ℕ) (n : ℕ) → 0 < length ds → AllDigits 10 ds → digits_value 10 ds ≡ n → n < 2 ^ 63 → decimal n ≡ ds → value_of_literal ds ≡ Some (Number (pos n))
+digits_read : (ds : List ℕ) (n : ℕ) → 0 < length ds → AllDigits 10 ds → digits_value 10 ds ≡ n → n < 2 ^ 63 → decimal n ≡ ds →
+    value_of_literal ds ≡ Some (Number (pos n))
 digits_read [] n some d v h e = absurd (omega arith)
 digits_read (c ∷ cs) n some d v h e =
     let low = digit_from_value c d.0 in
@@ -257,13 +273,15 @@ quoted_value-text : (text : List ℕ) → IsText text → quoted_value text ≡ 
 quoted_value-text [] t = absurd (omega (arith, t.some))
 quoted_value-text (b ∷ text) t = text_value-text (b ∷ text) t
 
-text_read : (text bytes : List ℕ) → IsText text → AreBytes text → IsTextLiteral text bytes → value_of_literal bytes ≡ Some (Text text)
+text_read : (text bytes : List ℕ) → IsText text → AreBytes text → IsTextLiteral text bytes →
+    value_of_literal bytes ≡ Some (Text text)
 text_read text bytes t all (inl p) =
     rw (p.1) (ap (λ o. option_and_then quoted_value o) (unquoted-quoted text p.0) ∙ quoted_value-text text t)
 text_read text bytes t all (inr e) =
     rw e (ap (λ o. option_and_then text_value o) (unhexed-hex text all) ∙ text_value-text text t)
 
-raw_read : (raw bytes : List ℕ) → IsRaw raw → AreBytes raw → bytes ≡ in_hex raw_letter raw → value_of_literal bytes ≡ Some (Raw raw)
+raw_read : (raw bytes : List ℕ) → IsRaw raw → AreBytes raw → bytes ≡ in_hex raw_letter raw →
+    value_of_literal bytes ≡ Some (Raw raw)
 raw_read raw bytes r all e = rw e (ap (λ o. option_and_then raw_value o) (unhexed-hex raw all) ∙ raw_value-raw raw r)
 
 null_read : (bytes : List ℕ) → (bytes ≡ codes "NULL") ⊎ (bytes ≡ quoted []) → value_of_literal bytes ≡ Some Null
@@ -278,29 +296,38 @@ value-from_literal (Raw raw) bytes l = raw_read raw bytes l.0 l.1 l.2
 
 -- the literal of a value
 
-from_quoted : (text rest : List ℕ) (v : Value) → rest ≡ flat_map quoted_byte text ++ quote ∷ [] → IsTrue (list_all is_printed text) → AreBytes rest → quoted_value text ≡ Some v
+from_quoted : (text rest : List ℕ) (v : Value) → rest ≡ flat_map quoted_byte text ++ quote ∷ [] →
+    IsTrue (list_all is_printed text) → AreBytes rest → quoted_value text ≡ Some v
     → IsLiteralOf v (quote ∷ rest)
 from_quoted [] rest v is printed all e = let null : v ≡ Null = cc in rw null (inr (ap (λ l. quote ∷ l) is))
 from_quoted (b ∷ text) rest v is printed all e =
     let w = if_some (is_text (b ∷ text)) (Text (b ∷ text)) v e in
-    rw (w.1) (text-from_test (b ∷ text) w.0, bytes-quoted (b ∷ text) (quote ∷ []) (subst AreBytes is all), inl (printed, ap (λ l. quote ∷ l) is))
+    rw (w.1) (
+      text-from_test (b ∷ text) w.0,
+      bytes-quoted (b ∷ text) (quote ∷ []) (subst AreBytes is all),
+      inl (printed, ap (λ l. quote ∷ l) is),
+    )
 
-from_hex : (text rest : List ℕ) (v : Value) → rest ≡ quote ∷ hex text ++ quote ∷ [] → AreBytes text → text_value text ≡ Some v → IsLiteralOf v (text_letter ∷ rest)
+from_hex : (text rest : List ℕ) (v : Value) → rest ≡ quote ∷ hex text ++ quote ∷ [] → AreBytes text → text_value text ≡ Some v →
+    IsLiteralOf v (text_letter ∷ rest)
 from_hex text rest v is all e =
     let w = if_some (is_text text) (Text text) v e in
     rw (w.1) (text-from_test text w.0, all, inr (ap (λ l. text_letter ∷ l) is))
 
-from_raw : (raw rest : List ℕ) (v : Value) → rest ≡ quote ∷ hex raw ++ quote ∷ [] → AreBytes raw → raw_value raw ≡ Some v → IsLiteralOf v (raw_letter ∷ rest)
+from_raw : (raw rest : List ℕ) (v : Value) → rest ≡ quote ∷ hex raw ++ quote ∷ [] → AreBytes raw → raw_value raw ≡ Some v →
+    IsLiteralOf v (raw_letter ∷ rest)
 from_raw raw rest v is all e =
     let w = if_some (is_raw raw) (Raw raw) v e in
     rw (w.1) (raw-from_test raw w.0, all, ap (λ l. raw_letter ∷ l) is)
 
-from_number : (z : ℤ) (bytes : List ℕ) (v : Value) → (if is_number z && same_bytes (signed_decimal z) bytes then Some (Number z) else None) ≡ Some v → IsLiteralOf v bytes
+from_number : (z : ℤ) (bytes : List ℕ) (v : Value) → (if is_number z &&
+    same_bytes (signed_decimal z) bytes then Some (Number z) else None) ≡ Some v → IsLiteralOf v bytes
 from_number z bytes v e =
     let w = if_some (is_number z && same_bytes (signed_decimal z) bytes) (Number z) v e in
     rw (w.1) (first _ _ w.0, sym (same-from_test (signed_decimal z) bytes (second _ _ w.0)))
 
-by_first : (t u x : Bool) (b : ℕ) (rest : List ℕ) (v : Value) → (b == quote) ≡ t → (b == text_letter) ≡ u → (b == raw_letter) ≡ x → AreBytes (b ∷ rest)
+by_first : (t u x : Bool) (b : ℕ) (rest : List ℕ) (v : Value) → (b == quote) ≡ t → (b == text_letter) ≡ u →
+    (b == raw_letter) ≡ x → AreBytes (b ∷ rest)
     → (if t then option_and_then quoted_value (unquoted false rest)
     else if u then option_and_then text_value (unhexed_in_quotes rest)
     else if x then option_and_then raw_value (unhexed_in_quotes rest)
@@ -327,7 +354,8 @@ from_first : (bytes : List ℕ) (v : Value) → AreBytes bytes → value_of_firs
 from_first [] v all e = cc
 from_first (b ∷ rest) v all e = by_first (b == quote) (b == text_letter) (b == raw_letter) b rest v refl refl refl all e
 
-null_or_first : (t : Bool) (bytes : List ℕ) (v : Value) → same_bytes bytes (codes "NULL") ≡ t → AreBytes bytes → (if t then Some Null else value_of_first bytes) ≡ Some v → IsLiteralOf v bytes
+null_or_first : (t : Bool) (bytes : List ℕ) (v : Value) → same_bytes bytes (codes "NULL") ≡ t → AreBytes bytes →
+    (if t then Some Null else value_of_first bytes) ≡ Some v → IsLiteralOf v bytes
 null_or_first true bytes v is all e = let null : v ≡ Null = cc in rw null (inl (same-from_test bytes (codes "NULL") is))
 null_or_first false bytes v is all e = from_first bytes v all e
 
@@ -338,7 +366,8 @@ pub agree : (bytes : List ℕ) → AreBytes bytes → (v : Value) → (value_of_
 agree bytes all v = (literal-from_value bytes all v, value-from_literal v bytes)
 
 -- the same of what a call found
-pub agree-found : {E : Type 0} (r : Result (Option Value) E) (bytes : List ℕ) → AreBytes bytes → IfOk r (λ found. found ≡ value_of_literal bytes)
+pub agree-found : {E : Type 0} (r : Result (Option Value) E) (bytes : List ℕ) → AreBytes bytes →
+    IfOk r (λ found. found ≡ value_of_literal bytes)
     → IfOk r (λ found. (v : Value) → (found ≡ Some v) ↔ IsLiteralOf v bytes)
 agree-found (Ok found) bytes all is = rw is (agree bytes all)
 agree-found (Err e) bytes all is = tt
@@ -354,7 +383,8 @@ one_value bytes v w p q =
 pub AreBytes-from_fits : (bs : List ℕ) → ((i : ℕ) → Fits w8 (get_or bs i 0)) → AreBytes bs
 AreBytes-from_fits bs all k d lt = rw (get_or_default bs k d 0 lt) (all k).fits
 
-printed_text : (t : Bool) (text : List ℕ) → list_all is_printed text ≡ t → IsTextLiteral text (if t then quoted text else in_hex text_letter text)
+printed_text : (t : Bool) (text : List ℕ) → list_all is_printed text ≡ t →
+    IsTextLiteral text (if t then quoted text else in_hex text_letter text)
 printed_text true text is = inl (is, refl)
 printed_text false text is = inr refl
 

@@ -18,7 +18,8 @@ use Rattle.rl_value.specs.Text.{IsText, IsRaw}
 use Rattle.rl_value.specs.declared.value.Value.TheVariants.{Number, Text, Raw}
 use Rattle.rl_text.specs.Reading.{pair_value, quoted_step, with_read}
 
-pub behind-more : (read : List ℕ) (b : ℕ) (rest : Option (List ℕ)) → with_read (read ++ b ∷ []) rest ≡ with_read read (with_byte b rest)
+pub behind-more : (read : List ℕ) (b : ℕ) (rest : Option (List ℕ)) →
+    with_read (read ++ b ∷ []) rest ≡ with_read read (with_byte b rest)
 behind-more read b None = refl
 behind-more read b (Some bytes) = ap Some (append_assoc read (b ∷ []) bytes)
 
@@ -34,7 +35,8 @@ no_pair (Some h) None rest e = refl
 no_pair (Some h) (Some l) rest e = cc
 
 -- two digits of a byte, and what stands behind them
-pub unhexed-pair : (h l : ℕ) (rest : List ℕ) (b : ℕ) → pair_value (hex_value h) (hex_value l) ≡ Some b → unhexed (h ∷ l ∷ rest) ≡ with_byte b (unhexed rest)
+pub unhexed-pair : (h l : ℕ) (rest : List ℕ) (b : ℕ) → pair_value (hex_value h) (hex_value l) ≡ Some b →
+    unhexed (h ∷ l ∷ rest) ≡ with_byte b (unhexed rest)
 unhexed-pair h l rest b e = pair (hex_value h) (hex_value l) (unhexed rest) b e
 
 pub unhexed-no_pair : (h l : ℕ) (rest : List ℕ) → pair_value (hex_value h) (hex_value l) ≡ None → unhexed (h ∷ l ∷ rest) ≡ None
@@ -48,13 +50,15 @@ own_half true b rest is e = let same : 39 ≡ b = grind (arith, nat_tests) in ap
 own_half false b rest is e = cc
 
 own_whole : (t u : Bool) (b : ℕ) (rest : List ℕ) → (if t then Some false else if u then Some true else None) ≡ Some true
-    → (if t then unquoted true rest else if u then with_byte b (unquoted false rest) else None) ≡ with_byte b (unquoted false rest)
+    → (if t then unquoted true rest else if u then with_byte b (unquoted false rest) else None) ≡
+    with_byte b (unquoted false rest)
 own_whole true u b rest e = cc
 own_whole false true b rest e = refl
 own_whole false false b rest e = cc
 
 -- a byte of the text's own
-pub unquoted-own : (half : Bool) (b : ℕ) (rest : List ℕ) → quoted_step half b ≡ Some true → unquoted half (b ∷ rest) ≡ with_byte b (unquoted false rest)
+pub unquoted-own : (half : Bool) (b : ℕ) (rest : List ℕ) → quoted_step half b ≡ Some true →
+    unquoted half (b ∷ rest) ≡ with_byte b (unquoted false rest)
 unquoted-own true b rest e = own_half (b == 39) b rest refl e
 unquoted-own false b rest e = own_whole (b == 39) (is_printed b) b rest e
 
@@ -70,7 +74,8 @@ quote_whole false true b rest e = cc
 quote_whole false false b rest e = cc
 
 -- a quote that may close the text
-pub unquoted-quote : (half : Bool) (b : ℕ) (rest : List ℕ) → quoted_step half b ≡ Some false → unquoted half (b ∷ rest) ≡ unquoted true rest
+pub unquoted-quote : (half : Bool) (b : ℕ) (rest : List ℕ) → quoted_step half b ≡ Some false →
+    unquoted half (b ∷ rest) ≡ unquoted true rest
 unquoted-quote true b rest e = quote_half (b == 39) b rest e
 unquoted-quote false b rest e = quote_whole (b == 39) (is_printed b) b rest e
 
@@ -106,7 +111,8 @@ same_false a b h = grind (arith, nat_tests)
 
 up_to_le : (bs : List ℕ) (n : ℕ) → valid_len_up_to bs n ≤ n
 up_to_le bs zero = omega arith
-up_to_le bs (suc n) = elim (is_utf8 (take (suc n) bs)) as (λ b. (if b then suc n else valid_len_up_to bs n) ≤ suc n) [ true ↦ omega arith | false ↦ omega (arith, up_to_le bs n) ]
+up_to_le bs (suc n) = elim (is_utf8 (take (suc n) bs)) as (λ b. (if b then suc n else valid_len_up_to bs n) ≤ suc n)
+    [ true ↦ omega arith | false ↦ omega (arith, up_to_le bs n) ]
 
 up_to_all : (b : Bool) (m n : ℕ) → m ≤ n → (if b then suc n else m) ≡ suc n → b ≡ true
 up_to_all true m n h e = refl
@@ -116,7 +122,8 @@ whole : (bs : List ℕ) (n : ℕ) → length bs ≡ n → valid_len_up_to bs n �
 whole [] n h e = IsUtf8-nil
 whole (b ∷ bs) zero h e = absurd (omega arith)
 whole (b ∷ bs) (suc n) h e =
-    let test : is_utf8 (take (suc n) (b ∷ bs)) ≡ true = up_to_all (is_utf8 (take (suc n) (b ∷ bs))) (valid_len_up_to (b ∷ bs) n) n (up_to_le (b ∷ bs) n) e in
+    let test : is_utf8 (take (suc n) (b ∷ bs)) ≡ true = up_to_all (is_utf8 (take (suc n) (b ∷ bs))) (valid_len_up_to (b ∷ bs) n) n
+    (up_to_le (b ∷ bs) n) e in
     let all : take (suc n) (b ∷ bs) ≡ b ∷ bs = take_all (suc n) (b ∷ bs) (omega arith) in
     IsUtf8-from_is_utf8 (b ∷ bs) (subst (λ (l : List ℕ). is_utf8 l ≡ true) all test)
 
@@ -206,44 +213,55 @@ is_number-from_mag (pos n) h = lt_true n (2 ^ 63) h
 is_number-from_mag (negsuc n) h = lt_true n (2 ^ 63) h
 
 -- bytes that are the printed form of no number of 64 bits
-none_of : (t u : Bool) (z : ℤ) (bytes : List ℕ) → is_number z ≡ t → same_bytes (signed_decimal z) bytes ≡ u → (mag z < 2 ^ 63 → signed_decimal z ≡ bytes → ⊥)
+none_of : (t u : Bool) (z : ℤ) (bytes : List ℕ) → is_number z ≡ t → same_bytes (signed_decimal z) bytes ≡ u →
+    (mag z < 2 ^ 63 → signed_decimal z ≡ bytes → ⊥)
     → (if t && u then Some (Number z) else None) ≡ None
 none_of true true z bytes p q never = absurd (never (mag-from_is_number z p) (same-from_test (signed_decimal z) bytes q))
 none_of true false z bytes p q never = refl
 none_of false u z bytes p q never = refl
 
-no_number : (bytes : List ℕ) → ((z : ℤ) → z ≡ signed_digits_value 10 bytes → mag z < 2 ^ 63 → signed_decimal z ≡ bytes → ⊥) → number_value bytes ≡ None
+no_number : (bytes : List ℕ) → ((z : ℤ) → z ≡ signed_digits_value 10 bytes → mag z < 2 ^ 63 → signed_decimal z ≡ bytes → ⊥) →
+    number_value bytes ≡ None
 no_number bytes never = none_of _ _ (signed_digits_value 10 bytes) bytes refl refl (never (signed_digits_value 10 bytes) refl)
 
-pub some_number : (bytes : List ℕ) (z : ℤ) → signed_digits_value 10 bytes ≡ z → mag z < 2 ^ 63 → signed_decimal z ≡ bytes → number_value bytes ≡ Some (Number z)
+pub some_number : (bytes : List ℕ) (z : ℤ) → signed_digits_value 10 bytes ≡ z → mag z < 2 ^ 63 → signed_decimal z ≡ bytes →
+    number_value bytes ≡ Some (Number z)
 some_number bytes z v h e =
     let fits : is_number z ≡ true = is_number-from_mag z h in
     let same : same_bytes (signed_decimal z) bytes ≡ true = rw e (same-itself bytes) in
     rw (v, fits, same) refl
 
-value_is : {E : Type 0} (bytes : List ℕ) (z : ℤ) (r : Result ℤ E) → ParsesSigned w64 10 bytes r → r ≡ Ok z → z ≡ signed_digits_value 10 bytes
+value_is : {E : Type 0} (bytes : List ℕ) (z : ℤ) (r : Result ℤ E) → ParsesSigned w64 10 bytes r → r ≡ Ok z →
+    z ≡ signed_digits_value 10 bytes
 value_is bytes z (Ok y) p e = let same : y ≡ z = cc in sym same ∙ p.1
 value_is bytes z (Err y) p e = cc
 
 -- a text that is read as a number, and is printed as this number
-pub number_value-same : {E : Type 0} (bytes : List ℕ) (z : ℤ) (r : Result ℤ E) → ParsesSigned w64 10 bytes r → r ≡ Ok z → mag z < 2 ^ 63 → signed_decimal z ≡ bytes → number_value bytes ≡ Some (Number z)
+pub number_value-same : {E : Type 0} (bytes : List ℕ) (z : ℤ) (r : Result ℤ E) → ParsesSigned w64 10 bytes r → r ≡ Ok z →
+    mag z < 2 ^ 63 → signed_decimal z ≡ bytes → number_value bytes ≡ Some (Number z)
 number_value-same bytes z r p e h same = some_number bytes z (sym (value_is bytes z r p e)) h same
 
 -- or otherwise
-pub number_value-other : {E : Type 0} (bytes : List ℕ) (z : ℤ) (r : Result ℤ E) → ParsesSigned w64 10 bytes r → r ≡ Ok z → (signed_decimal z ≡ bytes → ⊥) → number_value bytes ≡ None
-number_value-other bytes z r p e never = no_number bytes (λ y v h same. never (ap signed_decimal (value_is bytes z r p e ∙ sym v) ∙ same))
+pub number_value-other : {E : Type 0} (bytes : List ℕ) (z : ℤ) (r : Result ℤ E) → ParsesSigned w64 10 bytes r → r ≡ Ok z →
+    (signed_decimal z ≡ bytes → ⊥) → number_value bytes ≡ None
+number_value-other bytes z r p e never = no_number bytes
+    (λ y v h same. never (ap signed_decimal (value_is bytes z r p e ∙ sym v) ∙ same))
 
 -- a text that is read as no number
-pub number_value-unread : {E : Type 0} (bytes : List ℕ) (r : Result ℤ E) (x : E) → ParsesSigned w64 10 bytes r → r ≡ Err x → number_value bytes ≡ None
+pub number_value-unread : {E : Type 0} (bytes : List ℕ) (r : Result ℤ E) (x : E) → ParsesSigned w64 10 bytes r → r ≡ Err x →
+    number_value bytes ≡ None
 number_value-unread bytes r x p e =
-    no_number bytes (λ y v h same. let read : r ≡ Ok y = parse-signed_decimal w64 y bytes r (record { sfits = h }) h (sym same) p in cc)
+    no_number bytes (λ y v h same. let read : r ≡ Ok y = parse-signed_decimal w64 y bytes r (record { sfits = h }) h
+    (sym same) p in cc)
 
 -- the same, by what its numeral is not
-pub number_value-no_numeral : (bytes : List ℕ) → (IsNumeral 10 (without_leading_sign bytes) × FitsSigned w64 (signed_digits_value 10 bytes) → ⊥) → number_value bytes ≡ None
+pub number_value-no_numeral : (bytes : List ℕ) → (IsNumeral 10 (without_leading_sign bytes) ×
+    FitsSigned w64 (signed_digits_value 10 bytes) → ⊥) → number_value bytes ≡ None
 number_value-no_numeral bytes never = number_value-unread {E = ℕ} bytes (Err 0) 0 never refl
 
 -- bytes that are no text
 pub number_value-no_text : (bytes : List ℕ) → (IsUtf8 bytes → ⊥) → number_value bytes ≡ None
-number_value-no_text bytes never = no_number bytes (λ y v h same. never (subst IsUtf8 same (IsUtf8-from_ascii (signed_decimal y) (IsAscii-signed y h))))
+number_value-no_text bytes never = no_number bytes (λ y v h same. never
+    (subst IsUtf8 same (IsUtf8-from_ascii (signed_decimal y) (IsAscii-signed y h))))
 
 pub ruleset numbers = (number_value-no_numeral, number_value-no_text)

@@ -17,15 +17,22 @@ pub Moved-none : (a : Option (List ℕ)) (bytes : List ℕ) → Moved a a bytes 
 Moved-none a bytes = record { front = []; whole = refl; written = Appends-nil a }
 
 -- n bytes more
-pub Moved-more : (a b c : Option (List ℕ)) (bytes left : List ℕ) (n : ℕ) → Moved a b bytes left → Appends b c (take n left) → Moved a c bytes (drop n left)
+pub Moved-more : (a b c : Option (List ℕ)) (bytes left : List ℕ) (n : ℕ) → Moved a b bytes left → Appends b c (take n left) →
+    Moved a c bytes (drop n left)
 Moved-more a b c bytes left n m more = record {
   front = m.front ++ take n left;
-  whole = m.whole ∙ ap (λ l. m.front ++ l) (sym (take-append-drop n left)) ∙ sym (append_assoc m.front (take n left) (drop n left));
+  whole = m.whole ∙ ap (λ l. m.front ++ l) (sym (take-append-drop n left)) ∙
+      sym (append_assoc m.front (take n left) (drop n left));
   written = Appends-trans a b c m.front (take n left) m.written more;
 }
 
 pub Moved-kept : (a b c : Option (List ℕ)) (bytes left : List ℕ) → Moved a b bytes left → Keeps b c → AppendsFront a c bytes
-Moved-kept a b c bytes left m kept = record { front = m.front; rest = left; whole = m.whole; written = Appends-kept a b c m.front m.written kept }
+Moved-kept a b c bytes left m kept = record {
+  front = m.front;
+  rest = left;
+  whole = m.whole;
+  written = Appends-kept a b c m.front m.written kept;
+}
 
 pub Moved-front : (a b : Option (List ℕ)) (bytes left : List ℕ) → Moved a b bytes left → AppendsFront a b bytes
 Moved-front a b bytes left m = record { front = m.front; rest = left; whole = m.whole; written = m.written }
@@ -34,7 +41,8 @@ pub Moved-all : (a b : Option (List ℕ)) (bytes : List ℕ) → Moved a b bytes
 Moved-all a b bytes m = rw (m.whole, append-nil) m.written
 
 -- what was read to the end is all that was left
-pub read_to_end : (a b c : Option (List ℕ)) (bytes none : List ℕ) (n : ℕ) → Consumes a b bytes → Consumes b c none → none ≡ [] → IsAtEnd c → length bytes ≤ n
+pub read_to_end : (a b c : Option (List ℕ)) (bytes none : List ℕ) (n : ℕ) → Consumes a b bytes → Consumes b c none → none ≡ [] →
+    IsAtEnd c → length bytes ≤ n
     → Told a (λ all. bytes ≡ take n all) × Told a (λ all. c ≡ Some (drop n all))
 read_to_end None b c bytes none n p q e end h = (tt, tt)
 read_to_end (Some x) None c bytes none n p q e end h = absurd p
@@ -52,7 +60,8 @@ read_front (Some x) (Some y) bytes n p h =
     (rw (p, ← h) (sym (take-append_seam bytes y)), rw (p, ← h) (ap Some (sym (drop-append_seam bytes y))))
 
 -- a front of these bytes is one of these and more
-pub AppendsFront-longer : (a b : Option (List ℕ)) (bytes more : List ℕ) → AppendsFront a b bytes → AppendsFront a b (bytes ++ more)
+pub AppendsFront-longer : (a b : Option (List ℕ)) (bytes more : List ℕ) → AppendsFront a b bytes →
+    AppendsFront a b (bytes ++ more)
 AppendsFront-longer a b bytes more f = record {
   front = f.front;
   rest = f.rest ++ more;
@@ -61,7 +70,8 @@ AppendsFront-longer a b bytes more f = record {
 }
 
 -- and of these behind others that were written
-pub AppendsFront-behind : (a b c : Option (List ℕ)) (bytes more : List ℕ) → Appends a b bytes → AppendsFront b c more → AppendsFront a c (bytes ++ more)
+pub AppendsFront-behind : (a b c : Option (List ℕ)) (bytes more : List ℕ) → Appends a b bytes → AppendsFront b c more →
+    AppendsFront a c (bytes ++ more)
 AppendsFront-behind a b c bytes more p f = record {
   front = bytes ++ f.front;
   rest = f.rest;

@@ -39,7 +39,8 @@ pub fn read_all<I: Source>(alloc: Global, input: &mut I, most: u64) -> Result<Ve
     ensures size { IfOk result (λ read. length read.items ≤ most + 1) }
     ensures taken { OnErr result (ConsumesFront (I.left input.old) (I.left input.new)) }
     ensures cause { IsErrOf result ReadFault.SourceFault → Rose (I.faults input.old) (I.faults input.new) }
-    ensures none_passed_over { result ≢ Err ReadFault.SourceFault → NoneCounted I.counts_failures_alone (I.faults input.old) (I.faults input.new) }
+    ensures none_passed_over { result ≢ Err ReadFault.SourceFault →
+        NoneCounted I.counts_failures_alone (I.faults input.old) (I.faults input.new) }
     ensures later { I.faults input.old ≤ I.faults input.new }
 {
     let mut bytes = Vec::new(alloc);

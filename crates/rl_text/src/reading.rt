@@ -176,7 +176,8 @@ fn unhex(alloc: Global, bytes: &[u8]) -> Result<Option<Bytes>, NoMemory>
 /// Reads two digits as a byte; false where one of them is no digit.
 #[tactic(auto, using(crate::proofs::Literals::pairs))]
 fn read_pair(read: &mut Vec<u8>, high: u8, low: u8) -> Result<bool, NoMemory>
-    ensures next { IfOk result (λ read_one. IsTrue read_one → (rest : List ℕ) → with_read read.new.items (unhexed rest) ≡ with_read read.old.items (unhexed (high ∷ low ∷ rest))) }
+    ensures next { IfOk result (λ read_one. IsTrue read_one → (rest : List ℕ) →
+        with_read read.new.items (unhexed rest) ≡ with_read read.old.items (unhexed (high ∷ low ∷ rest))) }
     ensures bad { IfOk result (λ read_one. read_one ≡ false → (rest : List ℕ) → unhexed (high ∷ low ∷ rest) ≡ None) }
 {
     let Some(byte) = byte_of(high, low) else {
@@ -237,7 +238,8 @@ fn unquote(alloc: Global, bytes: &[u8]) -> Result<Option<Bytes>, NoMemory>
 /// Reads a byte between quotes, and says whether it is a quote that may close the text; None where it may not stand.
 #[tactic(auto, using(crate::proofs::Literals::quotes))]
 fn read_step(read: &mut Vec<u8>, half: bool, byte: u8) -> Result<Option<bool>, NoMemory>
-    ensures next { IfOk result (λ next. IfSome next (λ after. (rest : List ℕ) → with_read read.new.items (unquoted after rest) ≡ with_read read.old.items (unquoted half (byte ∷ rest)))) }
+    ensures next { IfOk result (λ next. IfSome next (λ after. (rest : List ℕ) →
+        with_read read.new.items (unquoted after rest) ≡ with_read read.old.items (unquoted half (byte ∷ rest)))) }
     ensures bad { IfOk result (λ next. IfNone next ((rest : List ℕ) → unquoted half (byte ∷ rest) ≡ None)) }
 {
     let Some(own) = step_of(half, byte) else {
@@ -271,6 +273,7 @@ fn step_of(half: bool, byte: u8) -> Option<bool>
 
 /// The law of literals: bytes are a literal of the value that is read of them, and of no other. It does nothing.
 pub fn literals_have_one_value()
-    ensures agree { (bytes : List ℕ) → AreBytes bytes → (value : AnyValue) → (value_of_literal bytes ≡ Some value) ↔ IsLiteralOf value bytes }
+    ensures agree { (bytes : List ℕ) → AreBytes bytes → (value : AnyValue) →
+        (value_of_literal bytes ≡ Some value) ↔ IsLiteralOf value bytes }
     ensures one { (bytes : List ℕ) (one other : AnyValue) → IsLiteralOf one bytes → IsLiteralOf other bytes → one ≡ other }
 {}

@@ -58,7 +58,8 @@ abbrev pub row_cmp : List Value → List Value → Ordering
 row_cmp = slice_cmp value_cmp
 
 pub value_total : IsTotalOrder value_cmp
-value_total = then_total (on_total kind_of nat_cmp_total) (then_total (on_total number_of int_cmp_total) (on_total bytes_of bytes_total))
+value_total = then_total (on_total kind_of nat_cmp_total)
+    (then_total (on_total number_of int_cmp_total) (on_total bytes_of bytes_total))
 
 pub row_total : IsTotalOrder row_cmp
 row_total = lists_total value_total
@@ -68,7 +69,8 @@ abbrev pub key_cmp : Key → Key → Ordering
 key_cmp = then_cmp (on (λ k. k.table) nat_cmp) (then_cmp (on (λ k. k.index) nat_cmp) (on (λ k. k.values) row_cmp))
 
 pub key_total : IsTotalOrder key_cmp
-key_total = then_total (on_total (λ k. k.table) nat_cmp_total) (then_total (on_total (λ k. k.index) nat_cmp_total) (on_total (λ k. k.values) row_total))
+key_total = then_total (on_total (λ k. k.table) nat_cmp_total)
+    (then_total (on_total (λ k. k.index) nat_cmp_total) (on_total (λ k. k.values) row_total))
 
 -- by record, then by vector
 abbrev pub pos_cmp : Pos → Pos → Ordering
@@ -82,7 +84,8 @@ abbrev pub xid_cmp : Xid → Xid → Ordering
 xid_cmp = then_cmp (on (λ x. x.usn) nat_cmp) (then_cmp (on (λ x. x.slot) nat_cmp) (on (λ x. x.sqn) nat_cmp))
 
 pub xid_total : IsTotalOrder xid_cmp
-xid_total = then_total (on_total (λ x. x.usn) nat_cmp_total) (then_total (on_total (λ x. x.slot) nat_cmp_total) (on_total (λ x. x.sqn) nat_cmp_total))
+xid_total = then_total (on_total (λ x. x.usn) nat_cmp_total)
+    (then_total (on_total (λ x. x.slot) nat_cmp_total) (on_total (λ x. x.sqn) nat_cmp_total))
 
 -- a key comes before the first of these
 abbrev pub is_below_first : Key → List Key → Bool

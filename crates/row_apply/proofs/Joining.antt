@@ -24,53 +24,73 @@ use Rattle.row_apply.proofs.Effects.{sound_base}
 use Rattle.row_apply.proofs.Owners.{none_owns, found_live}
 use Rattle.row_apply.proofs.Slots.{to_T, tie_turned, same_table, find_minus, after_puts, after_set}
 
-going : (gone : Option Key) (table : ℕ) (q : List Value) → IsPrimaryOf table gone → goes_at gone (row_key table q) ≡ goes (values_of gone) q
+going : (gone : Option Key) (table : ℕ) (q : List Value) → IsPrimaryOf table gone →
+    goes_at gone (row_key table q) ≡ goes (values_of gone) q
 going None table q of = refl
-going (Some k) table q of = tie_turned k table q of.1 ∙ ap (λ b. b && eq_by_cmp row_cmp q k.values) (same_table k.table table of.0)
+going (Some k) table q of = tie_turned k table q of.1 ∙ ap (λ b. b && eq_by_cmp row_cmp q k.values)
+    (same_table k.table table of.0)
 
-added : (tables : Tables) (es : Slots) (t : TableRow) (gone : Option (List Value)) (row : List Value) → add_row (table_without gone tables es t) row ≡ Ok (table_with_row gone tables es t row) →
+added : (tables : Tables) (es : Slots) (t : TableRow) (gone : Option (List Value)) (row : List Value) →
+    add_row (table_without gone tables es t) row ≡ Ok (table_with_row gone tables es t row) →
     WasAdded t (rows_without gone (rows_seen tables es t)) row (table_with_row gone tables es t row)
 added tables es t gone row e = was_added t (rows_without gone (rows_seen tables es t)) row (table_with_row gone tables es t row) e
 
-pub free_among : (tables : Tables) (es : Slots) (t : TableRow) (gone : Option Key) (row : List Value) → AreSlots es → IsPrimaryOf t.id gone →
-    add_row (table_without (values_of gone) tables es t) row ≡ Ok (table_with_row (values_of gone) tables es t row) → IsFreeAmong t es gone row
+pub free_among : (tables : Tables) (es : Slots) (t : TableRow) (gone : Option Key) (row : List Value) → AreSlots es →
+    IsPrimaryOf t.id gone →
+    add_row (table_without (values_of gone) tables es t) row ≡ Ok (table_with_row (values_of gone) tables es t row) →
+    IsFreeAmong t es gone row
 free_among tables es t gone row a of e i columns k x u full live stays same =
     let rows = rows_seen tables es t in
     let w = added tables es t (values_of gone) row e in
     none_owns (rows_without (values_of gone) rows) columns (values_at row columns) k x (w.free i columns u full)
-    (find_minus (values_of gone) k rows ∙ ap (λ b. cond b None (entries.find row_cmp k rows)) (sym (going gone t.id k of) ∙ stays) ∙ found_live es t.id k x (rows_of tables t.id) a live) same
+    (find_minus (values_of gone) k rows ∙ ap (λ b. cond b None (entries.find row_cmp k rows)) (sym (going gone t.id k of) ∙ stays)
+    ∙ found_live es t.id k x (rows_of tables t.id) a live) same
 
-put_seen : (tables : Tables) (old new : Slots) (t : TableRow) (gone : Option Key) (key : Key) (row : List Value) → AreSlots old → AreSlots new → key ≡ row_key t.id (primary_key t row) → IsPrimaryOf t.id gone →
-    Puts old new gone key row → T (entries.is_sorted row_cmp (rows_of tables t.id)) → rows_seen tables new t ≡ entries.put row_cmp (primary_key t row) row (rows_without (values_of gone) (rows_seen tables old t))
+put_seen : (tables : Tables) (old new : Slots) (t : TableRow) (gone : Option Key) (key : Key) (row : List Value) → AreSlots old →
+    AreSlots new → key ≡ row_key t.id (primary_key t row) → IsPrimaryOf t.id gone →
+    Puts old new gone key row → T (entries.is_sorted row_cmp (rows_of tables t.id)) →
+    rows_seen tables new t ≡ entries.put row_cmp (primary_key t row) row
+    (rows_without (values_of gone) (rows_seen tables old t))
 put_seen tables old new t gone key row o n named of puts h =
-    after_puts old new gone (row_key t.id (primary_key t row)) row o n refl of (subst (λ (k : Key). Puts old new gone k row) named puts) (rows_of tables t.id) h
+    after_puts old new gone (row_key t.id (primary_key t row)) row o n refl
+    of (subst (λ (k : Key). Puts old new gone k row) named puts) (rows_of tables t.id) h
 
-module _ (tables : Tables) (old mid new : Slots) (t : TableRow) (gone : Option Key) (key : Key) (row : List Value) (there : table_of (definitions_of tables) t.id ≡ Some t) (base : AreSound tables)
-    (o : AreSlots old) (n : AreSlots new) (same : mid ≡ old) (named : key ≡ row_key t.id (primary_key t row)) (of : IsPrimaryOf t.id gone) (puts : Puts mid new gone key row)
+module _ (tables : Tables) (old mid new : Slots) (t : TableRow) (gone : Option Key) (key : Key) (row : List Value)
+    (there : table_of (definitions_of tables) t.id ≡ Some t) (base : AreSound tables)
+    (o : AreSlots old) (n : AreSlots new) (same : mid ≡ old) (named : key ≡ row_key t.id (primary_key t row))
+    (of : IsPrimaryOf t.id gone) (puts : Puts mid new gone key row)
     (e : add_row (table_without (values_of gone) tables mid t) row ≡ Ok (table_with_row (values_of gone) tables mid t row)) where
-  seen : rows_seen tables new t ≡ entries.put row_cmp (primary_key t row) row (rows_without (values_of gone) (rows_seen tables old t))
-  seen = put_seen tables old new t gone key row o n named of (subst (λ (es : Slots). Puts es new gone key row) same puts) (to_T _ (sound_base tables t t.id there base).rising)
+  seen : rows_seen tables new t ≡ entries.put row_cmp (primary_key t row) row
+      (rows_without (values_of gone) (rows_seen tables old t))
+  seen = put_seen tables old new t gone key row o n named of (subst (λ (es : Slots). Puts es new gone key row) same puts)
+      (to_T _ (sound_base tables t t.id there base).rising)
 
   was : add_row (table_without (values_of gone) tables old t) row ≡ Ok (table_with_row (values_of gone) tables old t row)
-  was = subst (λ (es : Slots). add_row (table_without (values_of gone) tables es t) row ≡ Ok (table_with_row (values_of gone) tables es t row)) same e
+  was = subst (λ (es : Slots). add_row (table_without (values_of gone) tables es t) row ≡
+      Ok (table_with_row (values_of gone) tables es t row)) same e
 
   pub add_done : add_row (table_without (values_of gone) tables old t) row ≡ Ok (table_seen tables new t)
   add_done = was ∙ ap (λ (rows : Rows). Ok (let u : Table = record { row = t; rows = rows } in u)) (sym seen)
 
-  pub add_sound : AreSoundRows t (rows_seen tables old t) → IsTrue (is_row_of t.columns row) → AreSoundRows t (rows_seen tables new t)
+  pub add_sound : AreSoundRows t (rows_seen tables old t) → IsTrue (is_row_of t.columns row) →
+      AreSoundRows t (rows_seen tables new t)
   add_sound s fit =
       subst (AreSoundRows t) (sym seen)
-      (sound-added t (rows_without (values_of gone) (rows_seen tables old t)) row (table_with_row (values_of gone) tables old t row) (sound-minus t (values_of gone) (rows_seen tables old t) s) fit
+      (sound-added t (rows_without (values_of gone) (rows_seen tables old t)) row
+      (table_with_row (values_of gone) tables old t row) (sound-minus t (values_of gone) (rows_seen tables old t) s) fit
       (added tables old t (values_of gone) row was))
 
 -- ---- a row that was taken away
 
-taken_rows : (tables : Tables) (old new : Slots) (t : TableRow) (key : Key) (values : List Value) → AreSlots old → AreSlots new → key ≡ row_key t.id values → Sets old new key None → T (entries.is_sorted row_cmp (rows_of tables t.id)) →
+taken_rows : (tables : Tables) (old new : Slots) (t : TableRow) (key : Key) (values : List Value) → AreSlots old → AreSlots new →
+    key ≡ row_key t.id values → Sets old new key None → T (entries.is_sorted row_cmp (rows_of tables t.id)) →
     rows_seen tables new t ≡ rows_without (Some values) (rows_seen tables old t)
 taken_rows tables old new t key values o n named sets h =
-    after_set old new (row_key t.id values) None o n refl (subst (λ (k : Key). Sets old new k None) named sets) (rows_of tables t.id) h
+    after_set old new (row_key t.id values) None o n refl (subst (λ (k : Key). Sets old new k None) named sets)
+    (rows_of tables t.id) h
 
-module _ (tables : Tables) (old new : Slots) (t : TableRow) (key : Key) (values row : List Value) (logged : List (ℕ × Value)) (there : table_of (definitions_of tables) t.id ≡ Some t) (base : AreSound tables)
+module _ (tables : Tables) (old new : Slots) (t : TableRow) (key : Key) (values row : List Value) (logged : List (ℕ × Value))
+    (there : table_of (definitions_of tables) t.id ≡ Some t) (base : AreSound tables)
     (o : AreSlots old) (n : AreSlots new) (named : key ≡ row_key t.id values) (sets : Sets old new key None) where
   left : rows_seen tables new t ≡ rows_without (Some values) (rows_seen tables old t)
   left = taken_rows tables old new t key values o n named sets (to_T _ (sound_base tables t t.id there base).rising)
@@ -78,9 +98,11 @@ module _ (tables : Tables) (old new : Slots) (t : TableRow) (key : Key) (values 
   pub take_sound : AreSoundRows t (rows_seen tables old t) → AreSoundRows t (rows_seen tables new t)
   take_sound s = subst (AreSoundRows t) (sym left) (sound-minus t (Some values) (rows_seen tables old t) s)
 
-  pub take_done : entries.find row_cmp values (rows_seen tables old t) ≡ Some row → difference row logged ≡ None → (take_row (table_seen tables old t) values logged >>= λ taken. Ok taken.1) ≡ Ok (table_seen tables new t)
+  pub take_done : entries.find row_cmp values (rows_seen tables old t) ≡ Some row → difference row logged ≡ None →
+      (take_row (table_seen tables old t) values logged >>= λ taken. Ok taken.1) ≡ Ok (table_seen tables new t)
   take_done f d =
       let after : Table = record { row = t; rows = rows_without (Some values) (rows_seen tables old t) } in
-      ap (λ (found : Option (List Value)). (or_err found (Absent (named_key t values)) >>= λ r. refused_by (difference r logged) (r, after)) >>= λ (taken : List Value × Table). Ok taken.1) f
+      ap (λ (found : Option (List Value)). (or_err found (Absent (named_key t values)) >>=
+      λ r. refused_by (difference r logged) (r, after)) >>= λ (taken : List Value × Table). Ok taken.1) f
       ∙ ap (λ (o : Option Miss). refused_by o (row, after) >>= λ (taken : List Value × Table). Ok taken.1) d
       ∙ ap (λ (rows : Rows). Ok (let u : Table = record { row = t; rows = rows } in u)) (sym left)

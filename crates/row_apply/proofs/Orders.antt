@@ -22,7 +22,8 @@ equal Less e = absurd (cc)
 equal Equal e = refl
 equal Greater e = absurd (cc)
 
-lists_same : {A : Type 0} (R : A → A → Ordering) → ((x y : A) → R x y ≡ Equal → x ≡ y) → (xs ys : List A) → slice_cmp R xs ys ≡ Equal → xs ≡ ys
+lists_same : {A : Type 0} (R : A → A → Ordering) → ((x y : A) → R x y ≡ Equal → x ≡ y) → (xs ys : List A) →
+    slice_cmp R xs ys ≡ Equal → xs ≡ ys
 lists_same R same [] [] e = refl
 lists_same R same [] (y ∷ ys) e = absurd (cc)
 lists_same R same (x ∷ xs) [] e = absurd (cc)
@@ -96,7 +97,8 @@ then_eq Less s = refl
 then_eq Equal s = refl
 then_eq Greater s = refl
 
-pub row_keys_tie : (id : ℕ) (values : List Value) (k : Key) → k.index ≡ 0 → is_eq (key_cmp (row_key id values) k) ≡ ((k.table == id) && eq_by_cmp row_cmp values k.values)
+pub row_keys_tie : (id : ℕ) (values : List Value) (k : Key) → k.index ≡ 0 →
+    is_eq (key_cmp (row_key id values) k) ≡ ((k.table == id) && eq_by_cmp row_cmp values k.values)
 row_keys_tie id values k zero =
     let t : is_eq (nat_cmp id k.table) ≡ (k.table == id) = unsigned_tied id k.table ∙ grind (arith, nat_tests) in
     let i : nat_cmp 0 k.index ≡ Equal = subst (λ (n : ℕ). nat_cmp 0 n ≡ Equal) (sym zero) refl in

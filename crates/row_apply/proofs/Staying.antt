@@ -40,7 +40,8 @@ pub record WasTaken (t : Table) (k row : List Value) (u : Table) : Type 0 where
   pub same : u.row ≡ t.row
   pub sound : AreSoundRows t.row t.rows → AreSoundRows u.row u.rows
 
-taken_is : (t : Table) (k : List Value) (logged : List (ℕ × Value)) (taken : List Value × Table) → take_row t k logged ≡ Ok taken → WasTaken t k taken.0 taken.1
+taken_is : (t : Table) (k : List Value) (logged : List (ℕ × Value)) (taken : List Value × Table) →
+    take_row t k logged ≡ Ok taken → WasTaken t k taken.0 taken.1
 taken_is t k logged taken e =
     let b = bound (or_err (entries.find row_cmp k t.rows) _) _ taken e in
     let is = refused_is (difference b.0 logged) _ taken b.1.1 in
@@ -53,7 +54,8 @@ taken_is t k logged taken e =
 added_same : (t : Table) (row : List Value) (u : Table) → add_row t row ≡ Ok u → u.row ≡ t.row
 added_same t row u e = ap (λ (v : Table). v.row) (sym (was_added t.row t.rows row u e).is)
 
-added_sound : (t : Table) (row : List Value) (u : Table) → AreSoundRows t.row t.rows → is_row_of t.row.columns row ≡ true → add_row t row ≡ Ok u → AreSoundRows u.row u.rows
+added_sound : (t : Table) (row : List Value) (u : Table) → AreSoundRows t.row t.rows → is_row_of t.row.columns row ≡ true →
+    add_row t row ≡ Ok u → AreSoundRows u.row u.rows
 added_sound t row u s fit e =
     let w = was_added t.row t.rows row u e in
     subst (λ (v : Table). AreSoundRows v.row v.rows) w.is (sound-added t.row t.rows row u s fit w)
@@ -68,13 +70,16 @@ same_on t Delete old new u e =
     let same : b.0.1 ≡ u = cc in
     ap (λ (v : Table). v.row) (sym same) ∙ (taken_is t (logged_key t.row old) old b.0 b.1.0).same
 
-sound_on : (t : Table) (c : Change) (u : Table) → AreSoundRows t.row t.rows → change_fault_in t.row c ≡ None → are_cells c.new ≡ true → (op : Op) → c.op ≡ op → effect_on t op c.old c.new ≡ Ok u → AreSoundRows u.row u.rows
+sound_on : (t : Table) (c : Change) (u : Table) → AreSoundRows t.row t.rows → change_fault_in t.row c ≡ None →
+    are_cells c.new ≡ true → (op : Op) → c.op ≡ op → effect_on t op c.old c.new ≡ Ok u → AreSoundRows u.row u.rows
 sound_on t c u s fits cells Insert is e = added_sound t (cell_values c.new) u s (insert_fits t.row c is cells fits) e
 sound_on t c u s fits cells Update is e =
     let b = bound (take_row t (logged_key t.row c.old) c.old) _ u e in
     let w = taken_is t (logged_key t.row c.old) c.old b.0 b.1.0 in
-    let fit : is_row_of t.row.columns (with_cells t.row b.0.0 c.new) ≡ true = updated_fits t.row b.0.0 c.new (s.fit (logged_key t.row c.old) b.0.0 w.there) (accepted t.row c fits).fit in
-    added_sound b.0.1 (with_cells t.row b.0.0 c.new) u (w.sound s) (ap (λ (r : TableRow). is_row_of r.columns (with_cells t.row b.0.0 c.new)) w.same ∙ fit) b.1.1
+    let fit : is_row_of t.row.columns (with_cells t.row b.0.0 c.new) ≡ true =
+    updated_fits t.row b.0.0 c.new (s.fit (logged_key t.row c.old) b.0.0 w.there) (accepted t.row c fits).fit in
+    added_sound b.0.1 (with_cells t.row b.0.0 c.new) u (w.sound s)
+    (ap (λ (r : TableRow). is_row_of r.columns (with_cells t.row b.0.0 c.new)) w.same ∙ fit) b.1.1
 sound_on t c u s fits cells Delete is e =
     let b = bound (take_row t (logged_key t.row c.old) c.old) _ u e in
     let w = taken_is t (logged_key t.row c.old) c.old b.0 b.1.0 in
@@ -86,7 +91,8 @@ sound_on t c u s fits cells Delete is e =
 pub effect_same : (ts us : Tables) (c : Change) → effect ts c ≡ Ok us → definitions_of us ≡ definitions_of ts
 effect_same [] us c e = let none : [] ≡ us = cc in ap definitions_of (sym none)
 effect_same (t ∷ ts) us c e =
-    elim (t.row.id == c.table) as (λ b. cond b (effect_on t c.op c.old c.new >>= λ changed. Ok (changed ∷ ts)) (effect ts c >>= λ others. Ok (t ∷ others)) ≡ Ok us → definitions_of us ≡ definitions_of (t ∷ ts)) [
+    elim (t.row.id == c.table) as (λ b. cond b (effect_on t c.op c.old c.new >>= λ changed. Ok (changed ∷ ts))
+    (effect ts c >>= λ others. Ok (t ∷ others)) ≡ Ok us → definitions_of us ≡ definitions_of (t ∷ ts)) [
       | true ↦ λ is.
           let b = bound (effect_on t c.op c.old c.new) _ us is in
           let same : (b.0 ∷ ts) ≡ us = cc in
@@ -97,11 +103,13 @@ effect_same (t ∷ ts) us c e =
           ap definitions_of (sym same) ∙ ap (λ (rs : List TableRow). t.row ∷ rs) (effect_same ts b.0 c b.1.0)
     ] e
 
-pub effect_sound : (ts us : Tables) (c : Change) → AreSound ts → change_fault (definitions_of ts) c ≡ None → are_cells c.new ≡ true → effect ts c ≡ Ok us → AreSound us
+pub effect_sound : (ts us : Tables) (c : Change) → AreSound ts → change_fault (definitions_of ts) c ≡ None →
+    are_cells c.new ≡ true → effect ts c ≡ Ok us → AreSound us
 effect_sound [] us c s fits cells e = absurd (cc)
 effect_sound (t ∷ ts) us c s fits cells e =
     elim (t.row.id == c.table) as (λ b. fault_of_table (cond b (Some t.row) (table_of (definitions_of ts) c.table)) c ≡ None →
-    cond b (effect_on t c.op c.old c.new >>= λ changed. Ok (changed ∷ ts)) (effect ts c >>= λ others. Ok (t ∷ others)) ≡ Ok us → AreSound us) [
+    cond b (effect_on t c.op c.old c.new >>= λ changed. Ok (changed ∷ ts)) (effect ts c >>= λ others. Ok (t ∷ others)) ≡
+    Ok us → AreSound us) [
       | true ↦ λ own is.
           let b = bound (effect_on t c.op c.old c.new) _ us is in
           let same : (b.0 ∷ ts) ≡ us = cc in

@@ -20,7 +20,8 @@ use Rattle.row_apply.proofs.Effects.{OthersStay, named_id, effect_done, effect_m
 use Rattle.row_apply.proofs.Slots.{after_others}
 use Rattle.row_apply.proofs.Writing.{still_of}
 
-module _ (tables : Tables) (defs : List TableRow) (t : TableRow) (c : Change) (defined : definitions_of tables ≡ defs) (found : Some t ≡ table_of defs c.table) where
+module _ (tables : Tables) (defs : List TableRow) (t : TableRow) (c : Change) (defined : definitions_of tables ≡ defs)
+    (found : Some t ≡ table_of defs c.table) where
   named : table_of (definitions_of tables) c.table ≡ Some t
   named = ap (λ ds. table_of ds c.table) defined ∙ sym found
 
@@ -30,7 +31,9 @@ module _ (tables : Tables) (defs : List TableRow) (t : TableRow) (c : Change) (d
   there : table_of (definitions_of tables) t.id ≡ Some t
   there = ap (table_of (definitions_of tables)) id ∙ named
 
-  pub can_change : (w : Written) → change_fault defs c ≡ None → AreSound tables → AreSound (overlaid tables (writes_in (slots_of w))) → IsKept w → has_bad_keys t ≡ false → is_key_columns (primary_of t) ≡ true → CanChange tables w t c
+  pub can_change : (w : Written) → change_fault defs c ≡ None → AreSound tables →
+      AreSound (overlaid tables (writes_in (slots_of w))) → IsKept w → has_bad_keys t ≡ false →
+      is_key_columns (primary_of t) ≡ true → CanChange tables w t c
   can_change w accepted base s kept keys form = record {
     there = there;
     base_sound = base;
@@ -41,25 +44,32 @@ module _ (tables : Tables) (defs : List TableRow) (t : TableRow) (c : Change) (d
     form = form;
   }
 
-  module _ (old new : Slots) (rising : ids_rise 0 defs ≡ true) (base : AreSound tables) (o : AreSlots old) (n : AreSlots new) (only : ChangesOnly t.id old new) where
+  module _ (old new : Slots) (rising : ids_rise 0 defs ≡ true) (base : AreSound tables) (o : AreSlots old) (n : AreSlots new)
+      (only : ChangesOnly t.id old new) where
     stay : OthersStay t.id (writes_in old) (writes_in new)
     stay other not_it rows s = after_others old new t.id o n only other not_it rows s
 
     rise : ids_rise 0 (definitions_of tables) ≡ true
     rise = ap (ids_rise 0) defined ∙ rising
 
-    at : (es : Slots) → record { row = t; rows = rows_after c.table (writes_in es) (rows_of tables c.table) } ≡ table_seen tables es t
+    at : (es : Slots) → record { row = t; rows = rows_after c.table (writes_in es) (rows_of tables c.table) } ≡
+        table_seen tables es t
     at es i = record { row = t; rows = rows_after (sym id i) (writes_in es) (rows_of tables (sym id i)) }
 
-    pub all_done : effect_on (table_seen tables old t) c.op c.old c.new ≡ Ok (table_seen tables new t) → effect (overlaid tables (writes_in old)) c ≡ Ok (overlaid tables (writes_in new))
+    pub all_done : effect_on (table_seen tables old t) c.op c.old c.new ≡ Ok (table_seen tables new t) →
+        effect (overlaid tables (writes_in old)) c ≡ Ok (overlaid tables (writes_in new))
     all_done done =
-        effect_done tables 0 t c (writes_in old) (writes_in new) rise base named (subst (λ (k : ℕ). OthersStay k (writes_in old) (writes_in new)) id stay)
+        effect_done tables 0 t c (writes_in old) (writes_in new) rise base named
+        (subst (λ (k : ℕ). OthersStay k (writes_in old) (writes_in new)) id stay)
         (ap (λ (u : Table). effect_on u c.op c.old c.new) (at old) ∙ done ∙ ap (λ (u : Table). Ok u) (sym (at new)))
 
-    pub all_missed : (m : Miss) → effect_on (table_seen tables old t) c.op c.old c.new ≡ Err m → effect (overlaid tables (writes_in old)) c ≡ Err m
-    all_missed m miss = effect_missed tables t c (writes_in old) m named (ap (λ (u : Table). effect_on u c.op c.old c.new) (at old) ∙ miss)
+    pub all_missed : (m : Miss) → effect_on (table_seen tables old t) c.op c.old c.new ≡ Err m →
+        effect (overlaid tables (writes_in old)) c ≡ Err m
+    all_missed m miss = effect_missed tables t c (writes_in old) m named
+        (ap (λ (u : Table). effect_on u c.op c.old c.new) (at old) ∙ miss)
 
-    pub all_sound : AreSound (overlaid tables (writes_in old)) → AreSoundRows t (rows_seen tables new t) → AreSound (overlaid tables (writes_in new))
+    pub all_sound : AreSound (overlaid tables (writes_in old)) → AreSoundRows t (rows_seen tables new t) →
+        AreSound (overlaid tables (writes_in new))
     all_sound s rows = sound_after tables 0 t t.id (writes_in old) (writes_in new) rise base there stay s rows
 
     pub all_of : are_of defs (writes_in old) ≡ true → are_of defs (writes_in new) ≡ true

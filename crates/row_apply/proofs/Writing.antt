@@ -36,7 +36,8 @@ first_below k (l ∷ ls) h = ap is_lt h.0
 
 rising : (ks : List Key) → IsStrictlySortedBy key_cmp ks → keys_rise ks ≡ true
 rising [] s = refl
-rising (k ∷ ks) s = join (is_below_first k ks) (keys_rise ks) (first_below k ks (sorted_head key_cmp k ks s)) (rising ks (sorted_tail key_cmp k ks s))
+rising (k ∷ ks) s = join (is_below_first k ks) (keys_rise ks) (first_below k ks (sorted_head key_cmp k ks s))
+    (rising ks (sorted_tail key_cmp k ks s))
 
 pub writes_rising : (es : Slots) → AreSlots es → writes_rise (writes_in es) ≡ true
 writes_rising es a = ap keys_rise (same_keys es a.primary) ∙ rising (keys_of es) a.ordered
@@ -46,11 +47,13 @@ writes_rising es a = ap keys_rise (same_keys es a.primary) ∙ rising (keys_of e
 turned_less : (k l : Key) → key_cmp l k ≡ Less → key_cmp k l ≡ Greater
 turned_less k l e = key_total.antisymm k l ∙ ap ordering_reverse e
 
-in_middle : (k : Key) (es : Slots) (e : Key × Option (List Value)) (rest : Slots) → AllByRecursion (λ l. key_cmp k l ≡ Less) (keys_of (es ++ e ∷ rest)) → key_cmp k e.0 ≡ Less
+in_middle : (k : Key) (es : Slots) (e : Key × Option (List Value)) (rest : Slots) →
+    AllByRecursion (λ l. key_cmp k l ≡ Less) (keys_of (es ++ e ∷ rest)) → key_cmp k e.0 ≡ Less
 in_middle k [] e rest h = h.0
 in_middle k (f ∷ es) e rest h = in_middle k es e rest h.1
 
-pub inserted_last : (es : Slots) (e : Key × Option (List Value)) (rest : Slots) → IsStrictlySortedBy key_cmp (keys_of (es ++ e ∷ rest)) → insert_entry key_cmp es e.0 e.1 ++ rest ≡ es ++ e ∷ rest
+pub inserted_last : (es : Slots) (e : Key × Option (List Value)) (rest : Slots) →
+    IsStrictlySortedBy key_cmp (keys_of (es ++ e ∷ rest)) → insert_entry key_cmp es e.0 e.1 ++ rest ≡ es ++ e ∷ rest
 inserted_last [] e rest s = refl
 inserted_last (f ∷ es) e rest s =
     let after = turned_less e.0 f.0 (in_middle f.0 es e rest (sorted_head key_cmp f.0 (keys_of (es ++ e ∷ rest)) s)) in
@@ -59,30 +62,39 @@ inserted_last (f ∷ es) e rest s =
 
 -- ---- which tables they are of
 
-found_passes : (b : Bool) (p : ℕ → Bool) (k : Key) (e : Key × Option (List Value)) (rest : Option (Option (List Value))) (s : Option (List Value)) → is_eq (key_cmp k e.0) ≡ b → p e.0.table ≡ true →
+found_passes : (b : Bool) (p : ℕ → Bool) (k : Key) (e : Key × Option (List Value)) (rest : Option (Option (List Value)))
+    (s : Option (List Value)) → is_eq (key_cmp k e.0) ≡ b → p e.0.table ≡ true →
     (rest ≡ Some s → p k.table ≡ true) → cond b (Some e.1) rest ≡ Some s → p k.table ≡ true
 found_passes true p k e rest s t here there h = ap (λ (q : Key). p q.table) (key_is k e.0 t) ∙ here
 found_passes false p k e rest s t here there h = there h
 
-all_found : (p : ℕ → Bool) (es : Slots) (k : Key) (s : Option (List Value)) → list_all (λ (w : Write). p w.table) (writes_in es) ≡ true → slot_at es k ≡ Some s → p k.table ≡ true
+all_found : (p : ℕ → Bool) (es : Slots) (k : Key) (s : Option (List Value)) →
+    list_all (λ (w : Write). p w.table) (writes_in es) ≡ true → slot_at es k ≡ Some s → p k.table ≡ true
 all_found p [] k s all f = absurd (cc)
 all_found p (e ∷ es) k s all f =
     let g = both (p e.0.table) (list_all (λ (w : Write). p w.table) (writes_in es)) all in
     found_passes (is_eq (key_cmp k e.0)) p k e (slot_at es k) s refl g.0 (λ h. all_found p es k s g.1 h) f
 
-from_found : (p : ℕ → Bool) (all es : Slots) → StandIn all es → ((k : Key) (s : Option (List Value)) → slot_at all k ≡ Some s → p k.table ≡ true) → list_all (λ (w : Write). p w.table) (writes_in es) ≡ true
+from_found : (p : ℕ → Bool) (all es : Slots) → StandIn all es →
+    ((k : Key) (s : Option (List Value)) → slot_at all k ≡ Some s → p k.table ≡ true) →
+    list_all (λ (w : Write). p w.table) (writes_in es) ≡ true
 from_found p all [] stands each = refl
-from_found p all (e ∷ es) stands each = join (p e.0.table) (list_all (λ (w : Write). p w.table) (writes_in es)) (each e.0 e.1 stands.0.0) (from_found p all es stands.1 each)
+from_found p all (e ∷ es) stands each = join (p e.0.table) (list_all (λ (w : Write). p w.table) (writes_in es))
+    (each e.0 e.1 stands.0.0) (from_found p all es stands.1 each)
 
-pub still_of : (tables : List TableRow) (t : TableRow) (old new : Slots) → table_of tables t.id ≡ Some t → AreSlots new → ChangesOnly t.id old new → are_of tables (writes_in old) ≡ true → are_of tables (writes_in new) ≡ true
+pub still_of : (tables : List TableRow) (t : TableRow) (old new : Slots) → table_of tables t.id ≡ Some t → AreSlots new →
+    ChangesOnly t.id old new → are_of tables (writes_in old) ≡ true → are_of tables (writes_in new) ≡ true
 still_of tables t old new named n only of =
     from_found (λ id. is_some (table_of tables id)) new new (stand new n.primary n.ordered)
     (λ k s f. elim (k.table == t.id) as (λ b. (k.table == t.id) ≡ b → is_some (table_of tables k.table) ≡ true) [
-      | true ↦ λ is. let same : k.table ≡ t.id = grind (arith, nat_tests) in ap (λ (id : ℕ). is_some (table_of tables id)) same ∙ ap is_some named
+      | true ↦ λ is. let same : k.table ≡ t.id = grind (arith, nat_tests) in
+          ap (λ (id : ℕ). is_some (table_of tables id)) same ∙ ap is_some named
       | false ↦ λ other. all_found (λ id. is_some (table_of tables id)) old k s of (sym (only k other) ∙ f)
     ] refl)
 
-pub copied_step : (es rest left all new : Slots) (k : Key) (v : Option (List Value)) → IsStrictlySortedBy key_cmp (keys_of all) → es ++ rest ≡ all → rest ≡ (k, v) ∷ left → new ≡ insert_entry key_cmp es k v → new ++ left ≡ all
+pub copied_step : (es rest left all new : Slots) (k : Key) (v : Option (List Value)) → IsStrictlySortedBy key_cmp (keys_of all) →
+    es ++ rest ≡ all → rest ≡ (k, v) ∷ left → new ≡ insert_entry key_cmp es k v → new ++ left ≡ all
 copied_step es rest left all new k v s whole first is =
     let before : es ++ (k, v) ∷ left ≡ all = ap (λ (r : Slots). es ++ r) (sym first) ∙ whole in
-    ap (λ (n : Slots). n ++ left) is ∙ inserted_last es (k, v) left (subst (λ (a : Slots). IsStrictlySortedBy key_cmp (keys_of a)) (sym before) s) ∙ before
+    ap (λ (n : Slots). n ++ left) is ∙ inserted_last es (k, v) left
+    (subst (λ (a : Slots). IsStrictlySortedBy key_cmp (keys_of a)) (sym before) s) ∙ before

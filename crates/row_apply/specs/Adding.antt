@@ -56,7 +56,11 @@ table_without gone tables es t = record { row = t; rows = rows_without gone (row
 
 -- that table with a row added
 abbrev pub table_with_row : Option (List Value) → Tables → Slots → TableRow → List Value → Table
-table_with_row gone tables es t row = record { row = t; rows = entries.put row_cmp (primary_key t row) row (rows_without gone (rows_seen tables es t)) }
+table_with_row gone tables es t row = record {
+  row = t;
+  rows = entries.put row_cmp (primary_key t row) row
+      (rows_without gone (rows_seen tables es t));
+}
 
 -- ---- what the index answers
 

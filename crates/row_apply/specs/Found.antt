@@ -12,4 +12,5 @@ key_columns t index = unwrap_or (slice_get t.keys index) []
 -- the primary key of the row that has this value of a unique key
 abbrev pub owner_of : Tables → Key → Option (List Value)
 owner_of [] key = None
-owner_of (t ∷ ts) key = if t.row.id == key.table then owner_in t.rows (key_columns t.row key.index) key.values else owner_of ts key
+owner_of (t ∷ ts) key = if t.row.id == key.table then owner_in t.rows (key_columns t.row key.index) key.values else
+    owner_of ts key

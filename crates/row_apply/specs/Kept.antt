@@ -61,12 +61,15 @@ pub record AreSlots (es : Slots) : Type 0 where
 
 -- each unique value of a row of the table leads to the row's key
 abbrev pub IsIndexedBy : Slots → Owners → ℕ → List (List ℕ) → Type 0
-IsIndexedBy es owners table uniques = (key row : List Value) (index : ℕ) (columns : List ℕ) → IsLive es table key row → slice_get uniques index ≡ Some columns →
-    list_any is_null (values_at row columns) ≡ false → owner_at owners (unique_key table (1 + index) (values_at row columns)) ≡ Some (row_key table key)
+IsIndexedBy es owners table uniques = (key row : List Value) (index : ℕ) (columns : List ℕ) → IsLive es table key row →
+    slice_get uniques index ≡ Some columns →
+    list_any is_null (values_at row columns) ≡ false → owner_at owners (unique_key table (1 + index) (values_at row columns)) ≡
+    Some (row_key table key)
 
 -- each table that is indexed is so by the unique keys that it had
 abbrev pub AreIndexed : Slots → Owners → Indexed → Type 0
-AreIndexed es owners indexed = (table : ℕ) (keys : List (List ℕ)) → indexed_at indexed table ≡ Some keys → IsIndexedBy es owners table (drop 1 keys)
+AreIndexed es owners indexed = (table : ℕ) (keys : List (List ℕ)) → indexed_at indexed table ≡ Some keys →
+    IsIndexedBy es owners table (drop 1 keys)
 
 -- ---- the index of a row
 
@@ -78,7 +81,8 @@ index_at table row key index columns owners =
 -- the owners with the row's unique values; its unique keys count from this number
 abbrev pub index_by : ℕ → List Value → Key → ℕ → List (List ℕ) → Owners → Owners
 index_by table row key index [] owners = owners
-index_by table row key index (columns ∷ more) owners = index_by table row key (index + 1) more (index_at table row key index columns owners)
+index_by table row key index (columns ∷ more) owners = index_by table row key (index + 1) more
+    (index_at table row key index columns owners)
 
 abbrev pub index_slot : TableRow → Key → Option (List Value) → Owners → Owners
 index_slot t key None owners = owners
@@ -102,7 +106,8 @@ goes_at (Some gone) q = is_eq (key_cmp gone q)
 
 -- the row under the first key is gone, if there is one, and then a row stands under the other
 abbrev pub Puts : Slots → Slots → Option Key → Key → List Value → Type 0
-Puts old new gone key row = (q : Key) → slot_at new q ≡ cond (is_eq (key_cmp key q)) (Some (Some row)) (cond (goes_at gone q) (Some None) (slot_at old q))
+Puts old new gone key row = (q : Key) → slot_at new q ≡ cond (is_eq (key_cmp key q)) (Some (Some row))
+    (cond (goes_at gone q) (Some None) (slot_at old q))
 
 -- what was written of other tables is as it was
 abbrev pub ChangesOnly : ℕ → Slots → Slots → Type 0
@@ -127,12 +132,14 @@ OwnersOnly table old new = (q : Key) → (q.table == table) ≡ false → owner_
 
 -- two written rows of the table with one unique value are one row
 abbrev pub OneLive : TableRow → Slots → Type 0
-OneLive t es = (i : ℕ) (columns : List ℕ) (k x l y : List Value) → slice_get (uniques_of t) i ≡ Some columns → IsLive es t.id k x → IsLive es t.id l y →
+OneLive t es = (i : ℕ) (columns : List ℕ) (k x l y : List Value) → slice_get (uniques_of t) i ≡ Some columns →
+    IsLive es t.id k x → IsLive es t.id l y →
     list_any is_null (values_at x columns) ≡ false → values_at x columns ≡ values_at y columns → k ≡ l
 
 -- no written row that stays has one of the row's unique values
 abbrev pub IsFreeAmong : TableRow → Slots → Option Key → List Value → Type 0
-IsFreeAmong t es gone row = (i : ℕ) (columns : List ℕ) (k x : List Value) → slice_get (uniques_of t) i ≡ Some columns → list_any is_null (values_at row columns) ≡ false →
+IsFreeAmong t es gone row = (i : ℕ) (columns : List ℕ) (k x : List Value) → slice_get (uniques_of t) i ≡ Some columns →
+    list_any is_null (values_at row columns) ≡ false →
     IsLive es t.id k x → goes_at gone (row_key t.id k) ≡ false → values_at x columns ≡ values_at row columns → ⊥
 
 -- the key that goes, if one does, is a primary key of the table

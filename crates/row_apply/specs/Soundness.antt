@@ -22,7 +22,8 @@ AllFitTable t rows = (key row : List Value) → entries.find row_cmp key rows �
 
 -- two rows that have one value without Null in these columns are one row
 abbrev pub HaveOneOwner : List ℕ → Rows → Type 0
-HaveOneOwner columns rows = (key other row like : List Value) → entries.find row_cmp key rows ≡ Some row → entries.find row_cmp other rows ≡ Some like →
+HaveOneOwner columns rows = (key other row like : List Value) → entries.find row_cmp key rows ≡ Some row →
+    entries.find row_cmp other rows ≡ Some like →
     list_any is_null (values_at row columns) ≡ false → values_at row columns ≡ values_at like columns → key ≡ other
 
 -- the rows of a sound table

@@ -42,7 +42,8 @@ fn exists<R: Rows>(
 ) -> bool
     requires ready { IsReady (R.tables base.now) over.now table.now }
     requires key { key.now ≡ row_key table.now.id key.now.values }
-    ensures { result ≡ is_some (entries.find row_cmp key.now.values (rows_without (values_of gone.now) (rows_seen (R.tables base.now) (slots_of over.now) table.now))) }
+    ensures { result ≡ is_some (entries.find row_cmp key.now.values
+        (rows_without (values_of gone.now) (rows_seen (R.tables base.now) (slots_of over.now) table.now))) }
 {
     if is_going(gone, &key.values) {
         return false;
@@ -60,8 +61,10 @@ fn free_key<R: Rows>(
 ) -> Result<Key, EffectFault>
     requires ready { IsReady (R.tables base.now) over.now table.now }
     ensures key { IfOk result (λ key. key ≡ row_key table.now.id (primary_key table.now row.now)) }
-    ensures added { OnOk result (add_row (table_without (values_of gone.now) (R.tables base.now) (slots_of over.now) table.now) row.now ≡ Ok (table_with_row (values_of gone.now) (R.tables base.now) (slots_of over.now) table.now row.now)) }
-    ensures miss { OnMiss result (λ miss. add_row (table_without (values_of gone.now) (R.tables base.now) (slots_of over.now) table.now) row.now ≡ Err miss) }
+    ensures added { OnOk result (add_row (table_without (values_of gone.now) (R.tables base.now) (slots_of over.now) table.now)
+        row.now ≡ Ok (table_with_row (values_of gone.now) (R.tables base.now) (slots_of over.now) table.now row.now)) }
+    ensures miss { OnMiss result (λ miss. add_row (table_without (values_of gone.now) (R.tables base.now) (slots_of over.now)
+        table.now) row.now ≡ Err miss) }
 {
     let Ok(values) = primary_key(over.alloc, table, row) else {
         return Err(EffectFault::Memory);
@@ -92,13 +95,17 @@ pub fn add<R: Rows>(
     requires kept { IsKept over.old }
     requires gone { IsPrimaryOf table.now.id gone }
     requires fits { IsTrue (is_row_of table.now.columns row) }
-    ensures done { OnOk result (add_row (table_without (values_of gone) (R.tables base.now) (slots_of over.old) table.now) row ≡ Ok (table_seen (R.tables base.now) (slots_of over.new) table.now)) }
-    ensures miss { OnMiss result (λ miss. add_row (table_without (values_of gone) (R.tables base.now) (slots_of over.old) table.now) row ≡ Err miss) }
+    ensures done { OnOk result (add_row (table_without (values_of gone) (R.tables base.now) (slots_of over.old) table.now) row ≡
+        Ok (table_seen (R.tables base.now) (slots_of over.new) table.now)) }
+    ensures miss { OnMiss result (λ miss. add_row (table_without (values_of gone) (R.tables base.now) (slots_of over.old)
+        table.now) row ≡ Err miss) }
     ensures unchanged { OnErr result (slots_of over.new ≡ slots_of over.old) }
     ensures kept { IsKept over.new }
     ensures others { ChangesOnly table.now.id (slots_of over.old) (slots_of over.new) }
-    ensures only { OnOk result (SlotsOnly (keys_put gone (row_key table.now.id (primary_key table.now row))) (slots_of over.old) (slots_of over.new)) }
-    ensures written { OnOk result (AreWritten (keys_put gone (row_key table.now.id (primary_key table.now row))) (slots_of over.new)) }
+    ensures only { OnOk result (SlotsOnly (keys_put gone (row_key table.now.id (primary_key table.now row))) (slots_of over.old)
+        (slots_of over.new)) }
+    ensures written { OnOk result (AreWritten (keys_put gone (row_key table.now.id (primary_key table.now row)))
+        (slots_of over.new)) }
     ensures sound { AreSoundRows table.now (rows_seen (R.tables base.now) (slots_of over.new) table.now) }
 {
     match over.index_table(table) {

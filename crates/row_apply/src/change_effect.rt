@@ -36,8 +36,10 @@ fn insert<R: Rows>(
 ) -> Result<(), EffectFault>
     requires can { CanChange (R.tables base.now) over.old table.now change.now }
     requires op { change.now.op ≡ Insert }
-    ensures done { OnOk result (effect_on (table_seen (R.tables base.now) (slots_of over.old) table.now) Insert change.now.old change.now.new ≡ Ok (table_seen (R.tables base.now) (slots_of over.new) table.now)) }
-    ensures miss { OnMiss result (λ miss. effect_on (table_seen (R.tables base.now) (slots_of over.old) table.now) Insert change.now.old change.now.new ≡ Err miss) }
+    ensures done { OnOk result (effect_on (table_seen (R.tables base.now) (slots_of over.old) table.now) Insert change.now.old
+        change.now.new ≡ Ok (table_seen (R.tables base.now) (slots_of over.new) table.now)) }
+    ensures miss { OnMiss result (λ miss. effect_on (table_seen (R.tables base.now) (slots_of over.old) table.now) Insert
+        change.now.old change.now.new ≡ Err miss) }
     ensures unchanged { OnErr result (slots_of over.new ≡ slots_of over.old) }
     ensures kept { IsKept over.new }
     ensures others { ChangesOnly table.now.id (slots_of over.old) (slots_of over.new) }
@@ -77,8 +79,10 @@ fn update<R: Rows>(
     requires can { CanChange (R.tables base.now) over.old table.now change.now }
     requires op { change.now.op ≢ Insert }
     requires update { change.now.op ≡ Update }
-    ensures done { OnOk result (effect_on (table_seen (R.tables base.now) (slots_of over.old) table.now) Update change.now.old change.now.new ≡ Ok (table_seen (R.tables base.now) (slots_of over.new) table.now)) }
-    ensures miss { OnMiss result (λ miss. effect_on (table_seen (R.tables base.now) (slots_of over.old) table.now) Update change.now.old change.now.new ≡ Err miss) }
+    ensures done { OnOk result (effect_on (table_seen (R.tables base.now) (slots_of over.old) table.now) Update change.now.old
+        change.now.new ≡ Ok (table_seen (R.tables base.now) (slots_of over.new) table.now)) }
+    ensures miss { OnMiss result (λ miss. effect_on (table_seen (R.tables base.now) (slots_of over.old) table.now) Update
+        change.now.old change.now.new ≡ Err miss) }
     ensures unchanged { OnErr result (slots_of over.new ≡ slots_of over.old) }
     ensures kept { IsKept over.new }
     ensures others { ChangesOnly table.now.id (slots_of over.old) (slots_of over.new) }
@@ -108,8 +112,10 @@ fn delete<R: Rows>(
     requires can { CanChange (R.tables base.now) over.old table.now change.now }
     requires op { change.now.op ≢ Insert }
     requires delete { change.now.op ≡ Delete }
-    ensures done { OnOk result (effect_on (table_seen (R.tables base.now) (slots_of over.old) table.now) Delete change.now.old change.now.new ≡ Ok (table_seen (R.tables base.now) (slots_of over.new) table.now)) }
-    ensures miss { OnMiss result (λ miss. effect_on (table_seen (R.tables base.now) (slots_of over.old) table.now) Delete change.now.old change.now.new ≡ Err miss) }
+    ensures done { OnOk result (effect_on (table_seen (R.tables base.now) (slots_of over.old) table.now) Delete change.now.old
+        change.now.new ≡ Ok (table_seen (R.tables base.now) (slots_of over.new) table.now)) }
+    ensures miss { OnMiss result (λ miss. effect_on (table_seen (R.tables base.now) (slots_of over.old) table.now) Delete
+        change.now.old change.now.new ≡ Err miss) }
     ensures unchanged { OnErr result (slots_of over.new ≡ slots_of over.old) }
     ensures kept { IsKept over.new }
     ensures others { ChangesOnly table.now.id (slots_of over.old) (slots_of over.new) }
@@ -137,8 +143,10 @@ fn change_rows<R: Rows>(
     change: &Change,
 ) -> Result<(), EffectFault>
     requires can { CanChange (R.tables base.now) over.old table.now change.now }
-    ensures done { OnOk result (effect_on (table_seen (R.tables base.now) (slots_of over.old) table.now) change.now.op change.now.old change.now.new ≡ Ok (table_seen (R.tables base.now) (slots_of over.new) table.now)) }
-    ensures miss { OnMiss result (λ miss. effect_on (table_seen (R.tables base.now) (slots_of over.old) table.now) change.now.op change.now.old change.now.new ≡ Err miss) }
+    ensures done { OnOk result (effect_on (table_seen (R.tables base.now) (slots_of over.old) table.now) change.now.op
+        change.now.old change.now.new ≡ Ok (table_seen (R.tables base.now) (slots_of over.new) table.now)) }
+    ensures miss { OnMiss result (λ miss. effect_on (table_seen (R.tables base.now) (slots_of over.old) table.now) change.now.op
+        change.now.old change.now.new ≡ Err miss) }
     ensures unchanged { OnErr result (slots_of over.new ≡ slots_of over.old) }
     ensures kept { IsKept over.new }
     ensures others { ChangesOnly table.now.id (slots_of over.old) (slots_of over.new) }
@@ -166,13 +174,15 @@ pub fn effect<R: Rows>(
     requires accepted { change_fault dict.now.tables change.now ≡ None }
     requires base_sound { AreSound (R.tables base.now) }
     requires sound { AreSound (overlaid (R.tables base.now) over.old) }
-    ensures done { OnOk result (effect_of (overlaid (R.tables base.now) over.old) change.now ≡ Ok (overlaid (R.tables base.now) over.new)) }
+    ensures done { OnOk result (effect_of (overlaid (R.tables base.now) over.old) change.now ≡
+        Ok (overlaid (R.tables base.now) over.new)) }
     ensures miss { OnMiss result (λ miss. effect_of (overlaid (R.tables base.now) over.old) change.now ≡ Err miss) }
     ensures unchanged { OnErr result (over.new ≡ over.old) }
     ensures sound { AreSound (overlaid (R.tables base.now) over.new) }
     ensures of_tables { IsTrue (are_of dict.now.tables over.old) → IsTrue (are_of dict.now.tables over.new) }
     ensures only { OnOk result (WritesOnly (conflict_keys dict.now.tables change.now) over.old over.new) }
-    ensures written { OnOk result (WritesAll (conflict_keys dict.now.tables change.now) (overlaid (R.tables base.now) over.new) over.new) }
+    ensures written { OnOk result (WritesAll (conflict_keys dict.now.tables change.now)
+        (overlaid (R.tables base.now) over.new) over.new) }
 {
     let Some(table) = dict.def(change.table) else {
         unreachable!()

@@ -48,7 +48,8 @@ pub fn index_row(
     key: &Key,
     row: &Row,
 ) -> Result<(), NoMemory>
-    ensures indexed { OnOk result (owners.new.entries ≡ index_by table.now.id row.now key.now 1 (uniques_of table.now) owners.old.entries) }
+    ensures indexed { OnOk result (owners.new.entries ≡ index_by table.now.id row.now key.now 1 (uniques_of table.now)
+        owners.old.entries) }
     ensures others { OwnersOnly table.now.id owners.old.entries owners.new.entries }
 {
     let id = table.id;
@@ -69,7 +70,8 @@ fn index_entry(
     key: &Key,
     slot: &Option<Row>,
 ) -> Result<(), NoMemory>
-    ensures indexed { OnOk result (owners.new.entries ≡ (if key.now.table == table.now.id then index_slot table.now key.now slot.now owners.old.entries else owners.old.entries)) }
+    ensures indexed { OnOk result (owners.new.entries ≡ (if key.now.table == table.now.id then index_slot table.now key.now
+        slot.now owners.old.entries else owners.old.entries)) }
     ensures others { OwnersOnly table.now.id owners.old.entries owners.new.entries }
 {
     if key.table != table.id {

@@ -27,24 +27,30 @@ pub fn tables_without_rows_are_sound()
 /// The effect of an accepted change leaves sound tables sound, where its new cells rise by their columns, as those of each
 /// decoded change do. Of no table it changes more than the rows.
 pub fn an_effect_leaves_sound_tables()
-    ensures sound { (tables after : Tables) (change : Change) → AreSound tables → change_fault (definitions_of tables) change ≡ None →
+    ensures sound { (tables after : Tables) (change : Change) → AreSound tables →
+        change_fault (definitions_of tables) change ≡ None →
         IsTrue (are_cells change.new) → effect tables change ≡ Ok after → AreSound after }
-    ensures same { (tables after : Tables) (change : Change) → effect tables change ≡ Ok after → definitions_of after ≡ definitions_of tables }
+    ensures same { (tables after : Tables) (change : Change) → effect tables change ≡ Ok after →
+        definitions_of after ≡ definitions_of tables }
 {}
 
 /// Among sound rows a unique value without Null is owned by the row that has it, and a value that no row has by none.
 pub fn a_unique_value_has_its_owner()
-    ensures owner { (table : TableRow) (rows : Rows) (index : ℕ) (columns : List ℕ) (values key row : List Value) → AreSoundRows table rows →
-        slice_get (uniques_of table) index ≡ Some columns → entries.find row_cmp key rows ≡ Some row → values_at row columns ≡ values →
+    ensures owner { (table : TableRow) (rows : Rows) (index : ℕ) (columns : List ℕ) (values key row : List Value) →
+        AreSoundRows table rows →
+        slice_get (uniques_of table) index ≡ Some columns → entries.find row_cmp key rows ≡ Some row →
+        values_at row columns ≡ values →
         list_any is_null values ≡ false → owner_in rows columns values ≡ Some key }
     ensures none { (table : TableRow) (rows : Rows) (columns : List ℕ) (values : List Value) → AreSoundRows table rows →
-        ((key row : List Value) → entries.find row_cmp key rows ≡ Some row → values_at row columns ≢ values) → owner_in rows columns values ≡ None }
+        ((key row : List Value) → entries.find row_cmp key rows ≡ Some row → values_at row columns ≢ values) →
+        owner_in rows columns values ≡ None }
 {}
 
 /// After a write its row, or none, stands under its key, and under each other key what stood there. Rows that rise still do.
 pub fn a_write_is_of_one_row()
     ensures found { (rows : Rows) (key other : List Value) (row : Option (List Value)) →
-        entries.find row_cmp other (write_row rows key row) ≡ (if eq_by_cmp row_cmp other key then row else entries.find row_cmp other rows) }
+        entries.find row_cmp other (write_row rows key row) ≡
+        (if eq_by_cmp row_cmp other key then row else entries.find row_cmp other rows) }
     ensures rising { (rows : Rows) (key : List Value) (row : Option (List Value)) →
         IsTrue (entries.is_sorted row_cmp rows) → IsTrue (entries.is_sorted row_cmp (write_row rows key row)) }
 {}

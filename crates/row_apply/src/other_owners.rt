@@ -116,7 +116,9 @@ fn other_owner<'a, R: Rows>(
     requires unique { 0 < key.now.index }
     requires columns { slice_get table.now.keys key.now.index ≡ Some columns.now }
     requires filled { list_any is_null key.now.values ≡ false }
-    ensures { IfOk result (λ owner. option_copied owner ≡ owner_in (rows_without (values_of gone.now) (rows_seen (R.tables base.now) (slots_of over.now) table.now)) columns.now key.now.values) }
+    ensures { IfOk result (λ owner. option_copied owner ≡
+        owner_in (rows_without (values_of gone.now) (rows_seen (R.tables base.now) (slots_of over.now) table.now)) columns.now
+        key.now.values) }
 {
     match owner_written(over, key, columns) {
         Some(owner) => Ok(other_than(gone, owner)),
@@ -154,8 +156,11 @@ fn check_unique<R: Rows>(
     requires ready { IsReady (R.tables base.now) over.now table.now }
     requires unique { 0 < index }
     requires columns { slice_get table.now.keys index ≡ Some columns.now }
-    ensures free { OnOk result (taken_at table.now (rows_without (values_of gone.now) (rows_seen (R.tables base.now) (slots_of over.now) table.now)) index columns.now (values_at row.now columns.now) ≡ None) }
-    ensures taken { OnMiss result (λ miss. taken_at table.now (rows_without (values_of gone.now) (rows_seen (R.tables base.now) (slots_of over.now) table.now)) index columns.now (values_at row.now columns.now) ≡ Some miss) }
+    ensures free { OnOk result (taken_at table.now (rows_without (values_of gone.now)
+        (rows_seen (R.tables base.now) (slots_of over.now) table.now)) index columns.now (values_at row.now columns.now) ≡ None) }
+    ensures taken { OnMiss result (λ miss. taken_at table.now
+        (rows_without (values_of gone.now) (rows_seen (R.tables base.now) (slots_of over.now) table.now)) index columns.now
+        (values_at row.now columns.now) ≡ Some miss) }
 {
     let Ok(values) = key_row(over.alloc, row, columns) else {
         return Err(EffectFault::Memory);
@@ -184,8 +189,11 @@ pub fn check_uniques<R: Rows>(
     row: &Row,
 ) -> Result<(), EffectFault>
     requires ready { IsReady (R.tables base.now) over.now table.now }
-    ensures free { OnOk result (taken_by table.now (rows_without (values_of gone.now) (rows_seen (R.tables base.now) (slots_of over.now) table.now)) row.now (enumerate_from 1 (uniques_of table.now)) ≡ None) }
-    ensures taken { OnMiss result (λ miss. taken_by table.now (rows_without (values_of gone.now) (rows_seen (R.tables base.now) (slots_of over.now) table.now)) row.now (enumerate_from 1 (uniques_of table.now)) ≡ Some miss) }
+    ensures free { OnOk result (taken_by table.now (rows_without (values_of gone.now)
+        (rows_seen (R.tables base.now) (slots_of over.now) table.now)) row.now (enumerate_from 1 (uniques_of table.now)) ≡ None) }
+    ensures taken { OnMiss result (λ miss. taken_by table.now
+        (rows_without (values_of gone.now) (rows_seen (R.tables base.now) (slots_of over.now) table.now)) row.now
+        (enumerate_from 1 (uniques_of table.now)) ≡ Some miss) }
 {
     let mut keys = unique_keys(table);
     let mut index: u8 = 1;

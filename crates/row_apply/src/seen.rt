@@ -25,7 +25,8 @@ pub fn found<'a, R: Rows>(
     requires there { table_of (definitions_of (R.tables base.now)) table.now.id ≡ Some table.now }
     requires key { key.now ≡ row_key table.now.id key.now.values }
     requires slots { AreSlots (slots_of over.now) }
-    ensures { option_copied result ≡ entries.find row_cmp key.now.values (rows_seen (R.tables base.now) (slots_of over.now) table.now) }
+    ensures { option_copied result ≡ entries.find row_cmp key.now.values
+        (rows_seen (R.tables base.now) (slots_of over.now) table.now) }
 {
     match over.rows.get(key) {
         Some(slot) => slot.as_ref(),

@@ -137,7 +137,8 @@ impl Written {
     // What stood under the key stands there again, if anything did.
     fn put_back(&mut self, key: Key, was: Option<Option<Row>>)
         requires there { IsSome (slot_at (slots_of self.old) key) }
-        ensures back { (q : Key) → slot_at (slots_of self.new) q ≡ cond (is_eq (key_cmp key q)) was (slot_at (slots_of self.old) q) }
+        ensures back { (q : Key) → slot_at (slots_of self.new) q ≡
+            cond (is_eq (key_cmp key q)) was (slot_at (slots_of self.old) q) }
         ensures ordered { IsStrictlySortedBy key_cmp (keys_of (slots_of self.new)) }
         ensures owners { owners_of self.new ≡ owners_of self.old }
         ensures indexed { indexed_of self.new ≡ indexed_of self.old }

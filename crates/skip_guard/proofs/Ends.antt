@@ -16,7 +16,8 @@ either_way true y f g e = f refl
 either_way false y f g e = g e
 
 -- behind one byte of the pattern and of the text
-behind_one : (c : ℕ) (f : List ℕ → Bool) (b : ℕ) (bs : List ℕ) → after_some (after_one c f) (b ∷ bs) ≡ true → after_some f bs ≡ true
+behind_one : (c : ℕ) (f : List ℕ → Bool) (b : ℕ) (bs : List ℕ) → after_some (after_one c f) (b ∷ bs) ≡ true →
+    after_some f bs ≡ true
 behind_one c f b [] e =
     either_way (((c == 95) || (c == b)) && f []) false (λ h. (and_parts ((c == 95) || (c == b)) (f []) h).1) (λ h. absurd (cc)) e
 behind_one c f b (d ∷ ds) e =
@@ -58,7 +59,8 @@ Leads test n text (Rest others more) =
     × (length more ≤ length text)
 
 -- one byte further
-further : (c : ℕ) (f : List ℕ → Bool) (n b : ℕ) (bs : List ℕ) (r : Found) → after_one c f (b ∷ bs) ≡ f bs → Leads f n bs r → Leads (after_one c f) (suc n) (b ∷ bs) r
+further : (c : ℕ) (f : List ℕ → Bool) (n b : ℕ) (bs : List ℕ) (r : Found) → after_one c f (b ∷ bs) ≡ f bs → Leads f n bs r →
+    Leads (after_one c f) (suc n) (b ∷ bs) r
 further c f n b bs (Answer answer) e l = e ∙ l
 further c f n b bs (Rest others more) e l = (e ∙ l.0, λ h. l.1 (behind_one c f b bs h), omega (arith, l.2), omega (arith, l.3))
 
@@ -67,7 +69,8 @@ one_leads : (c : ℕ) (cs text : List ℕ) → ((rest : List ℕ) → Leads (mat
     Leads (after_one c (matches cs)) (suc (length cs)) text (comparison_after c (comparison_of cs) text)
 one_leads c cs [] rest = refl
 one_leads c cs (b ∷ bs) rest =
-    elim ((c == 95) || (c == b)) as (λ x. ((c == 95) || (c == b)) ≡ x → Leads (after_one c (matches cs)) (suc (length cs)) (b ∷ bs) (cond x (comparison_of cs bs) (Answer false))) [
+    elim ((c == 95) || (c == b)) as (λ x. ((c == 95) || (c == b)) ≡ x →
+    Leads (after_one c (matches cs)) (suc (length cs)) (b ∷ bs) (cond x (comparison_of cs bs) (Answer false))) [
       | true ↦ λ h. further c (matches cs) (length cs) b bs (comparison_of cs bs) (ap (λ x. x && matches cs bs) h) (rest bs)
       | false ↦ λ h. ap (λ x. x && matches cs bs) h
     ] refl
@@ -76,15 +79,20 @@ one_leads c cs (b ∷ bs) rest =
 leads : (pattern text : List ℕ) → Leads (matches pattern) (length pattern) text (comparison_of pattern text)
 leads [] text = refl
 leads (c ∷ cs) text =
-    elim (c == 37) as (λ x. Leads (cond x (after_some (matches cs)) (after_one c (matches cs))) (suc (length cs)) text (cond x (Rest cs text) (comparison_after c (comparison_of cs) text))) [
+    elim (c == 37) as (λ x. Leads (cond x (after_some (matches cs)) (after_one c (matches cs))) (suc (length cs)) text
+    (cond x (Rest cs text) (comparison_after c (comparison_of cs) text))) [
       | true ↦ (refl, behind_any (matches cs) text, omega arith, omega arith)
       | false ↦ one_leads c cs text (leads cs)
     ]
 
 answers : (pattern text : List ℕ) (r : Found) → Leads (matches pattern) (length pattern) text r → IsRight pattern text r
 answers pattern text (Answer answer) l = l
-answers pattern text (Rest others more) l =
-    (l.0, both_or_none (matches_end pattern text) (matches_end others more) l.1 (λ h. at_once (matches pattern) text (l.0 ∙ h)), l.2, l.3)
+answers pattern text (Rest others more) l = (
+  l.0,
+  both_or_none (matches_end pattern text) (matches_end others more) l.1 (λ h. at_once (matches pattern) text (l.0 ∙ h)),
+  l.2,
+  l.3,
+)
 
 -- and so it is right
 pub is_right : (pattern text : List ℕ) → IsRight pattern text (comparison_of pattern text)

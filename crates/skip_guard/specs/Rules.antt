@@ -34,7 +34,8 @@ are_skips skips = nat_le (length skips) skip_limit && rules_differ skips
 
 -- the first reason against one more rule
 abbrev pub skip_fault : List Skip → Rule → Option SkipFault
-skip_fault skips rule = if has_rule skips rule then Some faults.Twice else if nat_le skip_limit (length skips) then Some faults.Limit else None
+skip_fault skips rule = if has_rule skips rule then Some faults.Twice else if nat_le skip_limit (length skips) then Some
+    faults.Limit else None
 
 -- a refusal tells the first reason; memory is wanted only where there is none
 abbrev pub IsRefusal : SkipFault → Option SkipFault → Type 0

@@ -9,7 +9,8 @@ use Rattle.standby.specs.Answers.{Comes, IsEnd, FoldsWhole, IsArchiveFault, IsSi
 
 -- There is a status with this code, and it is one of the command's: a device's fault where the count of the archive's or of
 -- the sink's faults rose.
-pub record EndsWith (command : Command) (logs : Option (ℕ → Option (List ℕ))) (code : ℕ) (old new : Option (List ℕ)) (archive_rose sink_rose : Type 0) : Type 0 where
+pub record EndsWith (command : Command) (logs : Option (ℕ → Option (List ℕ))) (code : ℕ) (old new : Option (List ℕ))
+    (archive_rose sink_rose : Type 0) : Type 0 where
   pub status : Status
   pub code_is : code ≡ code_of status
   pub comes : Comes status

@@ -11,7 +11,8 @@ grows sum [] = omega arith
 grows sum (d ∷ ds) = omega (arith, grows (10 * sum + (d - 48)) ds)
 
 -- past the range with the next digit, and so past it with all
-pub past : (sum : ℕ) (digits : List ℕ) → 0 < length digits → 2 ^ 32 ≤ 10 * sum + (slice_index digits 0 - 48) → 2 ^ 32 ≤ number_from sum digits
+pub past : (sum : ℕ) (digits : List ℕ) → 0 < length digits → 2 ^ 32 ≤ 10 * sum + (slice_index digits 0 - 48) →
+    2 ^ 32 ≤ number_from sum digits
 past sum [] some h = absurd (omega (arith, some))
 past sum (d ∷ ds) some h = omega (arith, grows (10 * sum + (d - 48)) ds, h)
 
@@ -24,5 +25,6 @@ never false b = refl
 pub wrong : (word : List ℕ) → 2 ^ 32 ≤ number_from 0 word → Wrong ≡ fold_of word
 wrong word h =
     let large : nat_lt (number_from 0 word) (2 ^ 32) ≡ false = grind (arith, nat_tests) in
-    let not_one : is_sequence word ≡ false = ap (λ b. begins_well word && list_all is_digit word && b) large ∙ never (begins_well word) (list_all is_digit word) in
+    let not_one : is_sequence word ≡ false = ap (λ b. begins_well word && list_all is_digit word && b) large ∙
+    never (begins_well word) (list_all is_digit word) in
     sym (ap (λ b. if b then Fold (number_from 0 word) else Wrong) not_one)

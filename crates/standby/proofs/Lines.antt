@@ -19,7 +19,8 @@ pub joined-spaced : (w : List ℕ) (ws : List (List ℕ)) → join_with_byte 32 
 joined-spaced w [] = sym (append-nil w)
 joined-spaced w (v ∷ ws) = ap (λ l. w ++ (32 ∷ l)) (joined-spaced v ws)
 
-pub end-line : (tables : List TableRow) (scn n : ℕ) (verdict : Verdict) → end_line tables scn n verdict ≡ end_words tables scn n verdict
+pub end-line : (tables : List TableRow) (scn n : ℕ) (verdict : Verdict) →
+    end_line tables scn n verdict ≡ end_words tables scn n verdict
 end-line tables scn n verdict = joined-spaced (codes "END") (decimal scn ∷ decimal n ∷ verdict_text tables verdict)
 
 -- the lines of rows, with their keys and without
@@ -35,20 +36,24 @@ rows-written : (rows : Rows) → written (map (λ r. words (codes "ROW" ∷ row_
 rows-written [] = refl
 rows-written (r ∷ rows) = ap (λ l. row_line r.1 ++ l) (rows-written rows)
 
-tables-written : (by : RowsById) (ts : List TableRow) → written (flat_map table_lines (assembled ts by)) ≡ flat_map (table_text by) ts
+tables-written : (by : RowsById) (ts : List TableRow) → written (flat_map table_lines (assembled ts by)) ≡
+    flat_map (table_text by) ts
 tables-written by [] = refl
 tables-written by (t ∷ ts) =
     let table : Table = record { row = t; rows = rows_by by t.id } in
     flat_map-append with_end (table_lines table) (flat_map table_lines (assembled ts by))
-    ∙ ap (λ l. l ++ written (flat_map table_lines (assembled ts by))) (ap (λ l. table_line t (length (rows_by by t.id)) ++ l) (rows-written (rows_by by t.id)))
+    ∙ ap (λ l. l ++ written (flat_map table_lines (assembled ts by)))
+    (ap (λ l. table_line t (length (rows_by by t.id)) ++ l) (rows-written (rows_by by t.id)))
     ∙ ap (λ l. table_text by t ++ l) (tables-written by ts)
 
-shown-written : (whole : Bool) (by : RowsById) (ts : List TableRow) → written (flat_map table_lines (tables_shown whole ts by)) ≡ flat_map (table_text by) (definitions_shown whole ts)
+shown-written : (whole : Bool) (by : RowsById) (ts : List TableRow) →
+    written (flat_map table_lines (tables_shown whole ts by)) ≡ flat_map (table_text by) (definitions_shown whole ts)
 shown-written true by ts = tables-written by ts
 shown-written false by ts = refl
 
 pub fold-text : (f : Plainly) → written (fold_lines (folded_of f)) ≡
-    applied_text f.scn ++ (flat_map (table_text f.tables) (definitions_shown f.whole f.dict.tables) ++ end_text f.dict.tables f.scn f.n f.end)
+    applied_text f.scn ++ (flat_map (table_text f.tables) (definitions_shown f.whole f.dict.tables) ++
+    end_text f.dict.tables f.scn f.n f.end)
 fold-text f =
     let lines = flat_map table_lines (tables_shown f.whole f.dict.tables f.tables) in
     let end = end_line f.dict.tables f.scn f.n f.end in
@@ -58,12 +63,15 @@ fold-text f =
     ∙ ap (λ l. flat_map (table_text f.tables) (definitions_shown f.whole f.dict.tables) ++ l) (append-nil (with_end end)))
 
 -- what is put piece by piece is the whole text
-pub printed-all : (f : Plainly) (o₀ o₁ o₂ o₃ : List ℕ) (ts : List TableRow) → o₀ ≡ [] → o₁ ≡ o₀ ++ applied_text f.scn → ts ≡ definitions_shown f.whole f.dict.tables →
-    o₂ ≡ o₁ ++ flat_map (table_text f.tables) ts → o₃ ≡ o₂ ++ end_text f.dict.tables f.scn f.n f.end → o₃ ≡ written (fold_lines (folded_of f))
+pub printed-all : (f : Plainly) (o₀ o₁ o₂ o₃ : List ℕ) (ts : List TableRow) → o₀ ≡ [] → o₁ ≡ o₀ ++ applied_text f.scn →
+    ts ≡ definitions_shown f.whole f.dict.tables →
+    o₂ ≡ o₁ ++ flat_map (table_text f.tables) ts → o₃ ≡ o₂ ++ end_text f.dict.tables f.scn f.n f.end →
+    o₃ ≡ written (fold_lines (folded_of f))
 printed-all f o₀ o₁ o₂ o₃ ts none first same second third =
     let a = applied_text f.scn in
     let end = end_text f.dict.tables f.scn f.n f.end in
     third
-    ∙ ap (λ o. o ++ end) (second ∙ ap (λ o. o ++ flat_map (table_text f.tables) ts) (first ∙ ap (λ o. o ++ a) none) ∙ ap (λ x. a ++ flat_map (table_text f.tables) x) same)
+    ∙ ap (λ o. o ++ end) (second ∙ ap (λ o. o ++ flat_map (table_text f.tables) ts) (first ∙ ap (λ o. o ++ a) none) ∙
+    ap (λ x. a ++ flat_map (table_text f.tables) x) same)
     ∙ append_assoc a (flat_map (table_text f.tables) (definitions_shown f.whole f.dict.tables)) end
     ∙ sym (fold-text f)

@@ -16,19 +16,27 @@ use Rattle.standby.specs.Answers.{Prints, PrintsPrefix, IsEnd, SaysFault, end_st
 use Rattle.standby.specs.Writing.{AppendsPrefix}
 
 -- a prefix of the text was written
-pub written-prefix : (p : Printout) (text : List ℕ) (old new : Option (List ℕ)) (P : Type 0) → text ≡ p.text.items → AppendsPrefix old new text P → IsPrefixWritten (Ok p) old new
-written-prefix p text old new P same a = record { count = a.count; lines = subst (λ whole. Appends old new (take a.count whole)) same a.prefix }
+pub written-prefix : (p : Printout) (text : List ℕ) (old new : Option (List ℕ)) (P : Type 0) → text ≡ p.text.items →
+    AppendsPrefix old new text P → IsPrefixWritten (Ok p) old new
+written-prefix p text old new P same a = record {
+  count = a.count;
+  lines = subst (λ whole. Appends old new (take a.count whole)) same a.prefix;
+}
 
-one-prints : (seq : ℕ) (logs : ℕ → Option (List ℕ)) (folded : Result Plainly FoldFault) (p : Printout) (status : Status) (old new : Option (List ℕ)) →
-    IfOk folded (λ f. folded_of f ≡ fold_of_log seq (logs seq)) → IsPrintoutOf folded p → status ≡ p.status → Appends old new p.text.items → Prints logs seq status old new
+one-prints : (seq : ℕ) (logs : ℕ → Option (List ℕ)) (folded : Result Plainly FoldFault) (p : Printout) (status : Status)
+    (old new : Option (List ℕ)) →
+    IfOk folded (λ f. folded_of f ≡ fold_of_log seq (logs seq)) → IsPrintoutOf folded p → status ≡ p.status →
+    Appends old new p.text.items → Prints logs seq status old new
 one-prints seq logs (Err fault) p status old new is out same a = absurd out
 one-prints seq logs (Ok f) p status old new is out same a = record {
   ended = same ∙ out.status ∙ ap (λ (g : Folded). end_status g.verdict) is;
   lines = subst (Appends old new) (out.text ∙ ap (λ (g : Folded). written (fold_lines g)) is) a;
 }
 
-one-prefix : (seq : ℕ) (logs : ℕ → Option (List ℕ)) (folded : Result Plainly FoldFault) (p : Printout) (old new : Option (List ℕ)) →
-    IfOk folded (λ f. folded_of f ≡ fold_of_log seq (logs seq)) → IsPrintoutOf folded p → IsPrefix p.text.items old new → PrintsPrefix logs seq old new
+one-prefix : (seq : ℕ) (logs : ℕ → Option (List ℕ)) (folded : Result Plainly FoldFault) (p : Printout)
+    (old new : Option (List ℕ)) →
+    IfOk folded (λ f. folded_of f ≡ fold_of_log seq (logs seq)) → IsPrintoutOf folded p → IsPrefix p.text.items old new →
+    PrintsPrefix logs seq old new
 one-prefix seq logs (Err fault) p old new is out a = absurd out
 one-prefix seq logs (Ok f) p old new is out a = record {
   count = a.count;
@@ -36,14 +44,18 @@ one-prefix seq logs (Ok f) p old new is out a = record {
 }
 
 -- what was written of a fold is what the log that the archive tells is folded to
-pub prints : (known : Option (ℕ → Option (List ℕ))) (seq : ℕ) (folded : Result Plainly FoldFault) (printout : Result Printout FoldFault) (status : Status) (old new : Option (List ℕ)) →
-    Told known (λ logs. IfOk folded (λ f. folded_of f ≡ fold_of_log seq (logs seq))) → IfOk printout (IsPrintoutOf folded) → IsWritten printout status old new → Told known (λ logs. Prints logs seq status old new)
+pub prints : (known : Option (ℕ → Option (List ℕ))) (seq : ℕ) (folded : Result Plainly FoldFault)
+    (printout : Result Printout FoldFault) (status : Status) (old new : Option (List ℕ)) →
+    Told known (λ logs. IfOk folded (λ f. folded_of f ≡ fold_of_log seq (logs seq))) → IfOk printout (IsPrintoutOf folded) →
+    IsWritten printout status old new → Told known (λ logs. Prints logs seq status old new)
 prints None seq folded printout status old new is out w = tt
 prints (Some logs) seq folded (Err fault) status old new is out w = absurd w
 prints (Some logs) seq folded (Ok p) status old new is out w = one-prints seq logs folded p status old new is out w.0 w.1
 
-pub prints_prefix : (known : Option (ℕ → Option (List ℕ))) (seq : ℕ) (folded : Result Plainly FoldFault) (printout : Result Printout FoldFault) (old new : Option (List ℕ)) →
-    Told known (λ logs. IfOk folded (λ f. folded_of f ≡ fold_of_log seq (logs seq))) → IfOk printout (IsPrintoutOf folded) → IsPrefixWritten printout old new → Told known (λ logs. PrintsPrefix logs seq old new)
+pub prints_prefix : (known : Option (ℕ → Option (List ℕ))) (seq : ℕ) (folded : Result Plainly FoldFault)
+    (printout : Result Printout FoldFault) (old new : Option (List ℕ)) →
+    Told known (λ logs. IfOk folded (λ f. folded_of f ≡ fold_of_log seq (logs seq))) → IfOk printout (IsPrintoutOf folded) →
+    IsPrefixWritten printout old new → Told known (λ logs. PrintsPrefix logs seq old new)
 prints_prefix None seq folded printout old new is out w = tt
 prints_prefix (Some logs) seq folded (Err fault) old new is out w = absurd w
 prints_prefix (Some logs) seq folded (Ok p) old new is out w = one-prefix seq logs folded p old new is out w
@@ -53,7 +65,8 @@ ended-of : (folded : Result Plainly FoldFault) (p : Printout) → IsPrintoutOf f
 ended-of (Ok f) p out = out.ended
 ended-of (Err fault) p out = absurd out
 
-pub ends : (folded : Result Plainly FoldFault) (printout : Result Printout FoldFault) → IfOk printout (IsPrintoutOf folded) → IfOk printout (λ p. IsEnd p.status)
+pub ends : (folded : Result Plainly FoldFault) (printout : Result Printout FoldFault) → IfOk printout (IsPrintoutOf folded) →
+    IfOk printout (λ p. IsEnd p.status)
 ends folded (Ok p) out = ended-of folded p out
 ends folded (Err fault) out = tt
 

@@ -67,7 +67,8 @@ pub record Prints (logs : ℕ → Option (List ℕ)) (seq : ℕ) (status : Statu
   pub lines : Appends old new (text_of_log seq (logs seq))
 
 -- the command is a fold, and it is as `Prints` says
-pub record FoldsWhole (command : Command) (logs : Option (ℕ → Option (List ℕ))) (status : Status) (old new : Option (List ℕ)) : Type 0 where
+pub record FoldsWhole (command : Command) (logs : Option (ℕ → Option (List ℕ))) (status : Status)
+    (old new : Option (List ℕ)) : Type 0 where
   pub seq : ℕ
   pub asked : command ≡ Fold seq
   pub prints : Told logs (λ logs. Prints logs seq status old new)
@@ -86,7 +87,8 @@ pub record PrintsPrefix (logs : ℕ → Option (List ℕ)) (seq : ℕ) (old new 
   pub lines : Appends old new (take count (text_of_log seq (logs seq)))
 
 -- the command is a fold, the count of faults of the sink rose, and a prefix of the lines was written
-pub record IsSinkFault (command : Command) (logs : Option (ℕ → Option (List ℕ))) (old new : Option (List ℕ)) (rose : Type 0) : Type 0 where
+pub record IsSinkFault (command : Command) (logs : Option (ℕ → Option (List ℕ))) (old new : Option (List ℕ))
+    (rose : Type 0) : Type 0 where
   pub seq : ℕ
   pub asked : command ≡ Fold seq
   pub cause : rose

@@ -97,7 +97,8 @@ fn registry_of(alloc: Global, entry: LogEntry) -> Result<Registry, NoMemory>
 fn folded_ahead<A: Archive>(alloc: Global, seq: u32, base: Scn, reader: ReadSide<A>) -> FoldedLog<A>
     requires first { reader.place.rec ≡ 0 }
     ensures folded { Told (A.logs reader.archive) (λ logs. AreToldBy logs reader.registry →
-        IfOk result.folded (λ folded. folded_of folded ≡ (let redo = redo_ahead logs reader.registry reader.place in fold_of_redo seq base redo.entries redo.stop))) }
+        IfOk result.folded (λ folded. folded_of folded ≡
+        (let redo = redo_ahead logs reader.registry reader.place in fold_of_redo seq base redo.entries redo.stop))) }
     ensures logs { A.logs result.archive ≡ A.logs reader.archive }
     ensures failed { result.folded ≡ Err FoldFailed → Rose (A.faults reader.archive) (A.faults result.archive) }
     ensures count { A.faults reader.archive ≤ A.faults result.archive }

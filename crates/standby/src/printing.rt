@@ -102,7 +102,8 @@ fn shown_tables(folded: &Folded) -> &[TableRow]
 
 // The words of the END line.
 fn push_end_words(alloc: Global, out: &mut Vec<u8>, folded: &Folded) -> Result<(), NoMemory>
-    ensures { OnOk result (out.new.items ≡ out.old.items ++ end_words folded.now.dict.tables folded.now.scn folded.now.n folded.now.end) }
+    ensures { OnOk result (out.new.items ≡ out.old.items ++
+        end_words folded.now.dict.tables folded.now.scn folded.now.n folded.now.end) }
 {
     push_bytes(out, b"END")?;
     push_number(alloc, out, folded.scn)?;
@@ -111,7 +112,8 @@ fn push_end_words(alloc: Global, out: &mut Vec<u8>, folded: &Folded) -> Result<(
 }
 
 fn push_end(alloc: Global, out: &mut Vec<u8>, folded: &Folded) -> Result<(), NoMemory>
-    ensures { OnOk result (out.new.items ≡ out.old.items ++ end_text folded.now.dict.tables folded.now.scn folded.now.n folded.now.end) }
+    ensures { OnOk result (out.new.items ≡ out.old.items ++
+        end_text folded.now.dict.tables folded.now.scn folded.now.n folded.now.end) }
 {
     push_end_words(alloc, out, folded)?;
     push_bytes(out, b"\n")

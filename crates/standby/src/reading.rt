@@ -112,7 +112,8 @@ fn take_next<A: Archive>(
     requires none { NoneWait evaluator.old }
     requires room { reader.old.place.rec < 2 ^ 63 }
     ensures steps { Told (A.logs reader.old.archive) (λ logs. AreToldBy logs reader.old.registry →
-        IfOk result (Steps (redo_ahead logs reader.old.registry reader.old.place) (redo_ahead logs reader.new.registry reader.new.place) evaluator.old evaluator.new)) }
+        IfOk result (Steps (redo_ahead logs reader.old.registry reader.old.place)
+        (redo_ahead logs reader.new.registry reader.new.place) evaluator.old evaluator.new)) }
     ensures on { IfOk result (λ end. end ≡ None → reader.new.place.rec ≡ reader.old.place.rec + 1) }
     ensures numbered { IfOk result (λ end. recs_of evaluator.new ≤ reader.new.place.rec) }
     ensures none { OnOk result (NoneWait evaluator.new) }

@@ -19,9 +19,11 @@ inside (x ∷ xs) (suc i) a e = let below = inside xs i a e in omega arith
 
 module _ {T : Type 0} where
   -- a view is written over
-  pub parts_set : (vs : List (Known T)) (j : ℕ) (v w : Known T) → get_elem? vs j ≡ some v → parts_of (set vs j w) + v.parts ≡ parts_of vs + w.parts
+  pub parts_set : (vs : List (Known T)) (j : ℕ) (v w : Known T) → get_elem? vs j ≡ some v →
+      parts_of (set vs j w) + v.parts ≡ parts_of vs + w.parts
   parts_set [] j v w e = absurd (some-ne-none v (sym e))
-  parts_set (u ∷ us) zero v w e = let same : u.parts ≡ v.parts = ap (λ (x : Known T). x.parts) (some-injective u v e) in omega arith
+  parts_set (u ∷ us) zero v w e = let same : u.parts ≡ v.parts =
+      ap (λ (x : Known T). x.parts) (some-injective u v e) in omega arith
   parts_set (u ∷ us) (suc j) v w e = let later = parts_set us j v w e in omega arith
 
   -- a view is added
@@ -35,7 +37,8 @@ module _ {T : Type 0} where
   parts_at (u ∷ us) (suc j) v e = let later = parts_at us j v e in omega arith
 
   -- two views have no more parts than all
-  pub parts_two : (vs : List (Known T)) (i j : ℕ) (v w : Known T) → i ≢ j → get_elem? vs i ≡ some v → get_elem? vs j ≡ some w → v.parts + w.parts ≤ parts_of vs
+  pub parts_two : (vs : List (Known T)) (i j : ℕ) (v w : Known T) → i ≢ j → get_elem? vs i ≡ some v → get_elem? vs j ≡ some w →
+      v.parts + w.parts ≤ parts_of vs
   parts_two [] i j v w apart e f = absurd (some-ne-none v (sym e))
   parts_two (u ∷ us) zero zero v w apart e f = absurd (apart refl)
   parts_two (u ∷ us) zero (suc j) v w apart e f =
@@ -46,10 +49,12 @@ module _ {T : Type 0} where
       let same : u.parts ≡ w.parts = ap (λ (x : Known T). x.parts) (some-injective u w f) in
       let later = parts_at us i v e in
       omega arith
-  parts_two (u ∷ us) (suc i) (suc j) v w apart e f = let later = parts_two us i j v w (λ same. apart (ap suc same)) e f in omega arith
+  parts_two (u ∷ us) (suc i) (suc j) v w apart e f = let later =
+      parts_two us i j v w (λ same. apart (ap suc same)) e f in omega arith
 
   -- what holds of the view that was written, and of each other one, holds of each
-  pub each_set : (P : ℕ → Known T → Type 0) (vs : List (Known T)) (id : ℕ) (w : Known T) → P id w → ((j : ℕ) (v : Known T) → j ≢ id → get_elem? vs j ≡ some v → P j v)
+  pub each_set : (P : ℕ → Known T → Type 0) (vs : List (Known T)) (id : ℕ) (w : Known T) → P id w →
+      ((j : ℕ) (v : Known T) → j ≢ id → get_elem? vs j ≡ some v → P j v)
       → (j : ℕ) (v : Known T) → get_elem? (set vs id w) j ≡ some v → P j v
   each_set P vs id w mine others j v e =
       ⊎_elim
@@ -57,15 +62,19 @@ module _ {T : Type 0} where
       (λ (t : (j ≢ id) × (get_elem? vs j ≡ some v)). others j v t.0 t.1)
       (at_set vs id j w v e)
 
-  pub each_more : (P : ℕ → Known T → Type 0) (vs : List (Known T)) (w : Known T) → ((j : ℕ) → P j w) → ((j : ℕ) (v : Known T) → get_elem? vs j ≡ some v → P j v)
+  pub each_more : (P : ℕ → Known T → Type 0) (vs : List (Known T)) (w : Known T) → ((j : ℕ) → P j w) →
+      ((j : ℕ) (v : Known T) → get_elem? vs j ≡ some v → P j v)
       → (j : ℕ) (v : Known T) → get_elem? (vs ++ w ∷ []) j ≡ some v → P j v
   each_more P vs w mine others j v e =
-      ⊎_elim (λ (was : get_elem? vs j ≡ some v). others j v was) (λ (same : w ≡ v). subst (P j) same (mine j)) (at_snoc vs w v j e)
+      ⊎_elim (λ (was : get_elem? vs j ≡ some v). others j v was) (λ (same : w ≡ v). subst (P j) same (mine j))
+      (at_snoc vs w v j e)
 
   -- the same seats are holding, before and after
   pub record StaysHeld (before after : List (Known T)) : Type 0 where
-    pub back : (j : ℕ) (v : Known T) → get_elem? after j ≡ some v → v.holding ≡ true → (u : Known T) × (get_elem? before j ≡ some u) × (u.holding ≡ true)
-    pub forth : (j : ℕ) (v : Known T) → get_elem? before j ≡ some v → v.holding ≡ true → (u : Known T) × (get_elem? after j ≡ some u) × (u.holding ≡ true)
+    pub back : (j : ℕ) (v : Known T) → get_elem? after j ≡ some v → v.holding ≡ true → (u : Known T) ×
+        (get_elem? before j ≡ some u) × (u.holding ≡ true)
+    pub forth : (j : ℕ) (v : Known T) → get_elem? before j ≡ some v → v.holding ≡ true → (u : Known T) ×
+        (get_elem? after j ≡ some u) × (u.holding ≡ true)
 
   pub held_through : (a b c : List (Known T)) → StaysHeld a b → StaysHeld b c → StaysHeld a c
   held_through a b c f g = record {
@@ -73,7 +82,8 @@ module _ {T : Type 0} where
     forth = λ j v e holds. let t = f.forth j v e holds in g.forth j t.0 t.1 t.2;
   }
 
-  pub held_set : (vs : List (Known T)) (id : ℕ) (v w : Known T) → get_elem? vs id ≡ some v → w.holding ≡ v.holding → StaysHeld vs (set vs id w)
+  pub held_set : (vs : List (Known T)) (id : ℕ) (v w : Known T) → get_elem? vs id ≡ some v → w.holding ≡ v.holding →
+      StaysHeld vs (set vs id w)
   held_set vs id v w at same = record {
     back =
         each_set
@@ -87,8 +97,11 @@ module _ {T : Type 0} where
         dite
         (ℕ_discrete j id)
         (λ is.
-        let this : v ≡ x = some-injective v x (sym at ∙ (ap (get_elem? vs) (sym is) ∙ e)) in
-        (w, ap (get_elem? (set vs id w)) is ∙ set_here vs id w (inside vs id v at), same ∙ (ap (λ (y : Known T). y.holding) this ∙ holds)))
+        let this : v ≡ x = some-injective v x (sym at ∙ (ap (get_elem? vs) (sym is) ∙ e)) in (
+          w,
+          ap (get_elem? (set vs id w)) is ∙ set_here vs id w (inside vs id v at),
+          same ∙ (ap (λ (y : Known T). y.holding) this ∙ holds),
+        ))
         (λ apart. (x, set_else vs id j w apart ∙ e, holds));
   }
 

@@ -10,4 +10,5 @@ pub record Guard (T V : Type 0) : Type 0 where
 -- a guard is stored as the pair of its fields
 abbrev pub guard_code : {T V : Type 0} → Coded T → Coded V → Coded (Guard T V)
 guard_code {T} {V} tag value =
-    code_by (Token T × V) (coded× (token_code tag) value) (λ g. (g.token, g.value)) (λ p. record { token = p.0; value = p.1 }) (λ _. refl)
+    code_by (Token T × V) (coded× (token_code tag) value) (λ g. (g.token, g.value))
+    (λ p. record { token = p.0; value = p.1 }) (λ _. refl)

@@ -18,8 +18,10 @@ pub record Token (T : Type 0) : Type 0 where
 -- a token is stored as the tuple of its fields
 abbrev pub token_code : {T : Type 0} → Coded T → Coded (Token T)
 token_code {T} code =
-    code_by (TableId × (Option T × (ℕ × (ℕ × ℕ)))) (coded× table_id_coded (coded× (coded_option code) (coded× coded_ℕ (coded× coded_ℕ coded_ℕ))))
-    (λ t. (t.lock, (t.tag, (t.start, (t.parts, t.seen))))) (λ p. record { lock = p.0; tag = p.1.0; start = p.1.1.0; parts = p.1.1.1.0; seen = p.1.1.1.1 }) (λ _. refl)
+    code_by (TableId × (Option T × (ℕ × (ℕ × ℕ)))) (coded× table_id_coded
+    (coded× (coded_option code) (coded× coded_ℕ (coded× coded_ℕ coded_ℕ))))
+    (λ t. (t.lock, (t.tag, (t.start, (t.parts, t.seen)))))
+    (λ p. record { lock = p.0; tag = p.1.0; start = p.1.1.0; parts = p.1.1.1.0; seen = p.1.1.1.1 }) (λ _. refl)
 
 -- the value stands for this tag, which is known, and this start count
 abbrev pub StandsFor : {V T : Type 0} → (T → ℕ → V → Type 0) → Option T → ℕ → V → Type 0

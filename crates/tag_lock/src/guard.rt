@@ -24,7 +24,16 @@ impl<V: Tagged> Model for Held<V> {
 
     ghost coded = { guard_code V.Tag.code V.code };
 
-    ghost view = { λ h. record { token = record { lock = h.base.table_id; tag = h.base.me.0.tag; start = h.base.me.0.start; parts = h.base.me.0.parts; seen = h.base.me.0.seen }; value = h.value } };
+    ghost view = { λ h. record {
+      token = record {
+        lock = h.base.table_id;
+        tag = h.base.me.0.tag;
+        start = h.base.me.0.start;
+        parts = h.base.me.0.parts;
+        seen = h.base.me.0.seen;
+      };
+      value = h.value;
+    } };
 
     ghost invariant = { λ h. (0 < h.base.me.0.parts) × (h.base.me.0.holding ≡ true) × (h.base.me.1 ≡ (0, None) ∷ []) };
 }

@@ -182,7 +182,8 @@ impl<V: Tagged> TagLock<V> {
         requires stands { StandsFor V.stands about.0.tag about.1.start value }
         requires rank { about.2 ≡ V.height value }
         requires low { V.height value < 2 ^ 63 }
-        ensures made { IfOk result (λ made. made.1 ≡ record { lock = made.0; tag = about.0.tag; start = about.1.start; parts = 64; seen = about.2 }) }
+        ensures made { IfOk result (λ made. made.1 ≡ record
+            { lock = made.0; tag = about.0.tag; start = about.1.start; parts = 64; seen = about.2 }) }
         ensures back { IfErr result (λ back. back ≡ value) }
     {
         let mut slots = Vec::new(alloc);

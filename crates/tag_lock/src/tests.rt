@@ -254,11 +254,14 @@ fn crew_of_two<R: Threads + Wait + Sync>(
         rt,
         || -> Seats
             requires { (theirs.counter.lock ≡ counter.now) × (theirs.numbers.lock ≡ numbers.now) }
-            ensures { (result.counter ≡ record theirs.counter { seen = result.counter.seen }) × (result.numbers ≡ record theirs.numbers { seen = result.numbers.seen }) }
+            ensures { (result.counter ≡ record theirs.counter { seen = result.counter.seen }) ×
+                (result.numbers ≡ record theirs.numbers { seen = result.numbers.seen }) }
         { count_and_note(rt, counter, numbers, theirs, count) },
         || -> Seats
-            requires { IsSync R.row × (0 < count) × (seats.counter.lock ≡ counter.now) × (seats.numbers.lock ≡ numbers.now) × (count ≤ seats.counter.parts) × (count ≤ seats.numbers.parts) }
-            ensures { (result.counter ≡ record seats.counter { seen = result.counter.seen }) × (result.numbers ≡ record seats.numbers { seen = result.numbers.seen }) }
+            requires { IsSync R.row × (0 < count) × (seats.counter.lock ≡ counter.now) × (seats.numbers.lock ≡ numbers.now) ×
+                (count ≤ seats.counter.parts) × (count ≤ seats.numbers.parts) }
+            ensures { (result.counter ≡ record seats.counter { seen = result.counter.seen }) ×
+                (result.numbers ≡ record seats.numbers { seen = result.numbers.seen }) }
         { crew_of_two(rt, counter, numbers, seats, count - 1) },
     );
     Seats {

@@ -24,7 +24,13 @@ impl<V: Tagged> Model for Seat<V> {
 
     ghost coded = { token_code V.Tag.code };
 
-    ghost view = { λ s. record { lock = s.base.table_id; tag = s.base.me.0.tag; start = s.base.me.0.start; parts = s.base.me.0.parts; seen = s.base.me.0.seen } };
+    ghost view = { λ s. record {
+      lock = s.base.table_id;
+      tag = s.base.me.0.tag;
+      start = s.base.me.0.start;
+      parts = s.base.me.0.parts;
+      seen = s.base.me.0.seen;
+    } };
 
     ghost invariant = { λ s. (0 < s.base.me.0.parts) × (s.base.me.0.holding ≡ false) × (s.base.me.1 ≡ []) };
 }

@@ -7,4 +7,6 @@ pub returns-clause-read : goal.returns-clause-read
 returns-clause-read g c =
     let front = c.args.front.now in
     let count = c.args.count in
-    told_more (g.A.Archive.logs c.args.archive.now) c.args.seq c.read_once.result front c.read_once.new.into (post_of count (length front - count) front) count c.requires.within c.read_once.ensures.bound (room_size front c.read_once.new.into count c.requires.within) c.requires.read c.read_once.ensures.bytes
+    told_more (g.A.Archive.logs c.args.archive.now) c.args.seq c.read_once.result front c.read_once.new.into
+    (post_of count (length front - count) front) count c.requires.within c.read_once.ensures.bound
+    (room_size front c.read_once.new.into count c.requires.within) c.requires.read c.read_once.ensures.bytes

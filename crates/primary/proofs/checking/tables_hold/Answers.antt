@@ -9,6 +9,7 @@ use Rattle.primary.proofs.checking.tables_hold.Goals as goal
 pub loop-rest-init : goal.loop-rest-init
 loop-rest-init c = record {
   same = ap (λ ts. tables_hold ts c.args.tables.now c.args.index.now) c.tables-rest.ensures.same;
-  there = subst (λ (ts : List TableRow). AllByRecursion (λ t. table_of c.args.dict.now.tables t.id ≡ Some t) ts) (sym c.tables-rest.ensures.same)
+  there = subst (λ (ts : List TableRow). AllByRecursion (λ t. table_of c.args.dict.now.tables t.id ≡ Some t) ts)
+      (sym c.tables-rest.ensures.same)
       (each_found 0 c.args.dict.now.tables c.tables-rest.ensures.rise);
 }

@@ -22,4 +22,5 @@ loop-rest-init c =
     }
 
 pub effect-requires-clause-definitions : goal.effect-requires-clause-definitions
-effect-requires-clause-definitions c = definitions_assembled c.args.base.now.dictionary.tables c.args.base.now.rows ∙ ap (λ (d : Dictionary). d.tables) (sym c.dict-then-not-skipped.ensures.same)
+effect-requires-clause-definitions c = definitions_assembled c.args.base.now.dictionary.tables c.args.base.now.rows ∙
+    ap (λ (d : Dictionary). d.tables) (sym c.dict-then-not-skipped.ensures.same)

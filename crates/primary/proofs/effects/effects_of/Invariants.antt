@@ -13,7 +13,8 @@ abbrev pub invariant-loop-rest : goal.invariant-loop-rest
 invariant-loop-rest l =
     let tables = assembled l.base.dictionary.tables l.base.rows in
     record {
-      same : effects tables (kept_of l.skips l.base.dictionary.tables l.n l.changes) ≡ effects (overlaid tables l.over) (kept_of l.skips l.base.dictionary.tables l.n l.rest);
+      same : effects tables (kept_of l.skips l.base.dictionary.tables l.n l.changes) ≡
+          effects (overlaid tables l.over) (kept_of l.skips l.base.dictionary.tables l.n l.rest);
       sound : AreSound (overlaid tables l.over);
       of_tables : IsTrue (are_of l.base.dictionary.tables l.over);
       accepted : AreAccepted l.base.dictionary.tables l.rest;

@@ -13,13 +13,15 @@ returns-then-not-branch-clause-unsound c = λ same sound.
     let by = c.args.tables.now in
     let index = c.index_tables.new.index in
     let P : List TableRow → Type 0 = λ us. AreSound (assembled us by) → IsIndexed us by index in
-    let holds : tables_hold ts by index ≡ true = sound_tables_hold ts by index c.tables.ensures.rise sound (subst P c.tables.ensures.same c.in_ok-index_tables.ensures.indexed) in
+    let holds : tables_hold ts by index ≡ true = sound_tables_hold ts by index c.tables.ensures.rise sound
+    (subst P c.tables.ensures.same c.in_ok-index_tables.ensures.indexed) in
     let fails : tables_hold ts by index ≡ false = sym c.in_ok-tables_hold.ensures.exact ∙ c.if-not-branch.true in
     cc
 
 pub returns-clause-kept : goal.returns-clause-kept
 returns-clause-kept c =
-    let holds : tables_hold c.args.dict.now.tables c.args.tables.now c.index_tables.new.index ≡ true = sym c.in_ok-tables_hold.ensures.exact ∙ c.if-not-branch.false in
+    let holds : tables_hold c.args.dict.now.tables c.args.tables.now c.index_tables.new.index ≡ true =
+    sym c.in_ok-tables_hold.ensures.exact ∙ c.if-not-branch.false in
     record {
       indexed = tables_indexed c.args.dict.now.tables c.args.tables.now c.index_tables.new.index holds;
       counted = c.in_ok-count.ensures.exact;
@@ -27,5 +29,6 @@ returns-clause-kept c =
 
 pub returns-clause-sound : goal.returns-clause-sound
 returns-clause-sound c =
-    let holds : tables_hold c.args.dict.now.tables c.args.tables.now c.index_tables.new.index ≡ true = sym c.in_ok-tables_hold.ensures.exact ∙ c.if-not-branch.false in
+    let holds : tables_hold c.args.dict.now.tables c.args.tables.now c.index_tables.new.index ≡ true =
+    sym c.in_ok-tables_hold.ensures.exact ∙ c.if-not-branch.false in
     tables_sound c.args.dict.now.tables c.args.tables.now c.index_tables.new.index holds

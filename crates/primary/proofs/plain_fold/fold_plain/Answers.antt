@@ -12,7 +12,8 @@ loop-head-init c =
     let begun = c.in_ok-fold.ensures.begun in
     record {
       same = search rules;
-      rows = subst (λ (p : Progress). SoundAhead c.args.skips.now c.args.recs.now p) (sym begun) (start_ahead c.args.start c.args.skips.now c.args.recs.now c.requires.fits);
+      rows = subst (λ (p : Progress). SoundAhead c.args.skips.now c.args.recs.now p) (sym begun)
+          (start_ahead c.args.start c.args.skips.now c.args.recs.now c.requires.fits);
       few = search rules;
     }
 
@@ -20,6 +21,7 @@ pub unreachable-requires : goal.unreachable-requires
 unreachable-requires c =
     let item = c.loop-head-item.result in
     let sound : RowsAreSound item c.loop-head.fold =
-    ahead_item c.args.skips.now c.args.recs.now c.loop-head.head-index item item c.loop-head.fold c.loop-head-test.true c.loop-head-item.is c.loop-head.invariant.rows in
+    ahead_item c.args.skips.now c.args.recs.now c.loop-head.head-index item item c.loop-head.fold c.loop-head-test.true
+    c.loop-head-item.is c.loop-head.invariant.rows in
     c.in-Err-Unsound.ensures.unsound (ap Err c.in-Err-Unsound.field-0-is)
     (subst (λ (r : RedoRec). RowsAreSound (item.0, r) c.loop-head.fold) (sym c.in_ok-copy.ensures.equal) sound)

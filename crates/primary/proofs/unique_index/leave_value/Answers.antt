@@ -9,12 +9,20 @@ pub returns-then-leads_to : goal.returns-then-leads_to
 returns-then-leads_to c =
     let holds = tree.get key_cmp c.args.owners.now in
     let key = c.args.key.now in
-    let there : is_lead key (holds c.in-Some.unique) ≡ true = sym (c.leads_to.ensures.exact ∙ ap (is_lead key) c.get.ensures.value) ∙ c.if-leads_to.true in
-    record { left = λ q. c.remove.ensures.updates.0 q ∙ left_own holds c.in-Some.unique key there q ∙ ap (λ o. lead_without (is_value_of q o) key (holds q)) (sym c.in-Some.is) }
+    let there : is_lead key (holds c.in-Some.unique) ≡ true =
+    sym (c.leads_to.ensures.exact ∙ ap (is_lead key) c.get.ensures.value) ∙ c.if-leads_to.true in
+    record {
+      left = λ q. c.remove.ensures.updates.0 q ∙ left_own holds c.in-Some.unique key there q ∙
+          ap (λ o. lead_without (is_value_of q o) key (holds q)) (sym c.in-Some.is);
+    }
 
 pub returns : goal.returns
 returns c =
     let holds = tree.get key_cmp c.args.owners.now in
     let key = c.args.key.now in
-    let elsewhere : is_lead key (holds c.in-Some.unique) ≡ false = sym (c.leads_to.ensures.exact ∙ ap (is_lead key) c.get.ensures.value) ∙ c.if-leads_to.false in
-    record { left = λ q. left_other holds c.in-Some.unique key elsewhere q ∙ ap (λ o. lead_without (is_value_of q o) key (holds q)) (sym c.in-Some.is) }
+    let elsewhere : is_lead key (holds c.in-Some.unique) ≡ false =
+    sym (c.leads_to.ensures.exact ∙ ap (is_lead key) c.get.ensures.value) ∙ c.if-leads_to.false in
+    record {
+      left = λ q. left_other holds c.in-Some.unique key elsewhere q ∙
+          ap (λ o. lead_without (is_value_of q o) key (holds q)) (sym c.in-Some.is);
+    }

@@ -8,9 +8,12 @@ use Rattle.primary.proofs.writing.write_all.Goals as goal
 pub loop-write-init : goal.loop-write-init
 loop-write-init c =
     let ts = c.args.dict.now.tables in
-    let all : into_iter_items c.into_iter-write-iterator.result ≡ c.args.writes = c.into_iter-write-iterator.ensures.into_iter_gives.0 ∙ c.into_items-write-items.ensures.same in
-    let P : List Write → Type 0 = λ ws. Indexing ts (rows_after_writes c.args.tables.now c.args.writes) c.args.tables.now ws c.args.index.now in
-    subst P (sym all) (indexing_begins ts c.args.tables.now c.args.writes c.args.index.now c.into_items-write-items.ensures.rising c.requires.indexed)
+    let all : into_iter_items c.into_iter-write-iterator.result ≡ c.args.writes =
+    c.into_iter-write-iterator.ensures.into_iter_gives.0 ∙ c.into_items-write-items.ensures.same in
+    let P : List Write → Type 0 = λ ws. Indexing ts (rows_after_writes c.args.tables.now c.args.writes) c.args.tables.now ws
+    c.args.index.now in
+    subst P (sym all) (indexing_begins ts c.args.tables.now c.args.writes c.args.index.now c.into_items-write-items.ensures.rising
+    c.requires.indexed)
 
 pub loop-write-preserved : goal.loop-write-preserved
 loop-write-preserved c =
@@ -19,5 +22,6 @@ loop-write-preserved c =
     let rest = into_iter_items c.next.new.self in
     let next : into_iter_items c.loop-write.write-iterator ≡ c.in-Some.write ∷ rest = c.in-Some.ensures.steps.0 in
     let P : List Write → Type 0 = λ ws. Indexing ts final c.loop-write.tables ws c.loop-write.index in
-    indexing_more ts final c.loop-write.tables c.write.new.self c.in-Some.write rest c.loop-write.index c.index_write.new.index (subst P next c.loop-write.invariant) c.requires.sound
+    indexing_more ts final c.loop-write.tables c.write.new.self c.in-Some.write rest c.loop-write.index c.index_write.new.index
+    (subst P next c.loop-write.invariant) c.requires.sound
     c.in_ok-index_write.ensures.indexed c.in_ok-write.ensures.written

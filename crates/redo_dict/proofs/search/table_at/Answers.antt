@@ -9,9 +9,11 @@ returns-in-Some c =
     c.table_if_of_id.ensures
     ∙ ap (λ t. if_of_id c.args.id (Some t)) read.1
     ∙ sym (ap (if_of_id c.args.id) (read_at c.args.tables.now c.place_of.result c.in-Some.table.now read.3.0))
-    ∙ found_at c.args.id 0 c.args.tables.now c.requires c.place_of.result c.place_of.ensures.between.0 c.place_of.ensures.between.1
+    ∙ found_at c.args.id 0 c.args.tables.now c.requires c.place_of.result c.place_of.ensures.between.0
+    c.place_of.ensures.between.1
 
 pub returns-in-None : goal.returns-in-None
 returns-in-None c =
     sym (ap (if_of_id c.args.id) (past_end c.args.tables.now c.place_of.result c.in-None.ensures.lookup.3))
-    ∙ found_at c.args.id 0 c.args.tables.now c.requires c.place_of.result c.place_of.ensures.between.0 c.place_of.ensures.between.1
+    ∙ found_at c.args.id 0 c.args.tables.now c.requires c.place_of.result c.place_of.ensures.between.0
+    c.place_of.ensures.between.1

@@ -7,7 +7,8 @@ use Rattle.redo_law.proofs.conflicts.values_of.Given as goal
 -- the values so far, with those of the columns that are left
 abbrev pub invariant-loop-rest : goal.invariant-loop-rest
 invariant-loop-rest l = record {
-  so_far : values_with l.values.items (all_of (map (cell_of (l.first ++ l.second)) l.rest)) ≡ all_of (map (cell_of (l.first ++ l.second)) l.columns);
+  so_far : values_with l.values.items (all_of (map (cell_of (l.first ++ l.second)) l.rest)) ≡
+      all_of (map (cell_of (l.first ++ l.second)) l.columns);
   size : length l.values.items + length l.rest ≡ length l.columns;
 }
 

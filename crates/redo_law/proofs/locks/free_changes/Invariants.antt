@@ -7,7 +7,8 @@ use Rattle.redo_law.proofs.locks.free_changes.Given as goal
 
 -- with the changes that are left, the locks are what they are with all
 abbrev pub invariant-loop-rest : goal.invariant-loop-rest
-invariant-loop-rest l = (q : Key) → freed_each (tree.get key_cmp l.locks) l.rest q ≡ freed_each (tree.get key_cmp l.initial.locks) l.changes q
+invariant-loop-rest l = (q : Key) → freed_each (tree.get key_cmp l.locks) l.rest q ≡
+    freed_each (tree.get key_cmp l.initial.locks) l.changes q
 
 abbrev pub decreases-loop-rest : goal.decreases-loop-rest
 decreases-loop-rest l = length l.rest

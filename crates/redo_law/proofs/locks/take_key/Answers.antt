@@ -6,7 +6,8 @@ use Rattle.redo_law.proofs.LockSteps.{taken_held, taken_free, on_ok}
 use Rattle.redo_law.proofs.locks.take_key.Goals as goal
 
 pub returns-then-contains_key : goal.returns-then-contains_key
-returns-then-contains_key c = taken_held (tree.get key_cmp c.args.locks.now) c.args.key.now c.args.hold (sym c.contains_key.ensures ∙ c.if-contains_key.true)
+returns-then-contains_key c = taken_held (tree.get key_cmp c.args.locks.now) c.args.key.now c.args.hold
+    (sym c.contains_key.ensures ∙ c.if-contains_key.true)
 
 pub returns : goal.returns
 returns c = λ q.

@@ -7,7 +7,8 @@ use Rattle.redo_law.proofs.locks.take_keys.Given as goal
 
 -- with the keys that are left, the locks are what they are with all
 abbrev pub invariant-loop-rest : goal.invariant-loop-rest
-invariant-loop-rest l = (q : Key) → taken (tree.get key_cmp l.locks) l.rest l.hold q ≡ taken (tree.get key_cmp l.initial.locks) l.keys l.hold q
+invariant-loop-rest l = (q : Key) → taken (tree.get key_cmp l.locks) l.rest l.hold q ≡
+    taken (tree.get key_cmp l.initial.locks) l.keys l.hold q
 
 abbrev pub decreases-loop-rest : goal.decreases-loop-rest
 decreases-loop-rest l = length l.rest

@@ -21,8 +21,11 @@ returns-in_default c =
 
 pub returns : goal.returns
 returns c =
-    let h : c.args.txn.now.keys ≡ c.pop.new.self ++ c.in-Some.keys ∷ [] = some_match _ (λ (ks : List Key). c.args.txn.now.keys ≡ c.pop.new.self ++ ks ∷ []) c.pop.result c.in-Some.keys c.pop.ensures c.in-Some.is in
+    let h : c.args.txn.now.keys ≡ c.pop.new.self ++ c.in-Some.keys ∷ [] =
+    some_match _ (λ (ks : List Key). c.args.txn.now.keys ≡ c.pop.new.self ++ ks ∷ []) c.pop.result c.in-Some.keys
+    c.pop.ensures c.in-Some.is in
     gives_one c.args.txn.now _ c.in-Some.keys (tree.get key_cmp c.args.locks.now) _ h refl (λ q.
     c.free_keys_of.ensures q
-    ∙ ap (λ ks. freed_at (tree.get key_cmp c.args.locks.now) ks c.args.txn.now.xid (length c.items.result.now) q) c.items-2.ensures
+    ∙ ap (λ ks. freed_at (tree.get key_cmp c.args.locks.now) ks c.args.txn.now.xid (length c.items.result.now) q)
+    c.items-2.ensures
     ∙ ap (λ n. freed_at (tree.get key_cmp c.args.locks.now) c.in-Some.keys c.args.txn.now.xid n q) (ap length c.items.ensures))

@@ -11,5 +11,7 @@ on_any (Err x) P p = tt
 pub returns-clause-locks : goal.returns-clause-locks
 returns-clause-locks c = on_any c.push.result _ (λ q.
     c.in_ok-take_keys.ensures q
-    ∙ ap (λ ks. taken (tree.get key_cmp c.args.locks.now) ks (record { holder = c.args.txn.now.xid; change = length c.items.result.now }) q) c.as_slice.ensures.value
-    ∙ ap (λ n. taken (tree.get key_cmp c.args.locks.now) c.args.keys.items (record { holder = c.args.txn.now.xid; change = n }) q) (ap length c.items.ensures))
+    ∙ ap (λ ks. taken (tree.get key_cmp c.args.locks.now) ks
+    (record { holder = c.args.txn.now.xid; change = length c.items.result.now }) q) c.as_slice.ensures.value
+    ∙ ap (λ n. taken (tree.get key_cmp c.args.locks.now) c.args.keys.items (record { holder = c.args.txn.now.xid; change = n }) q)
+    (ap length c.items.ensures))

@@ -13,10 +13,18 @@ returns-in-Some-clause-exact g c =
     let registry = c.args.registry.now in
     let reading = c.loop-raw.reading in
     let raw = c.in-Some.raw in
-    let given = gives known registry reading.place reading.front raw (into_iter_items c.next.new.self) reading.log (subst (λ w. IsReading known registry reading.place reading.front w reading.log) c.in-Some.ensures.items c.loop-raw.invariant.reading) in
-    subst (λ k. Told k (λ logs. AreToldBy logs registry → ahead logs registry c.args.reading.now.place ≡ raws_before (raw ∷ []) (ahead logs registry c.place_behind-reading.result))) c.loop-raw.invariant.same
-    (subst (λ p. Told known (λ logs. AreToldBy logs registry → ahead logs registry p ≡ raws_before (raw ∷ []) (ahead logs registry c.place_behind-reading.result))) c.loop-raw.invariant.place
-    (subst (λ q. Told known (λ logs. AreToldBy logs registry → ahead logs registry reading.place ≡ raws_before (raw ∷ []) (ahead logs registry q))) (sym c.place_behind-reading.ensures) given.ahead_is))
+    let given = gives known registry reading.place reading.front raw (into_iter_items c.next.new.self) reading.log
+    (subst (λ w. IsReading known registry reading.place reading.front w reading.log) c.in-Some.ensures.items
+    c.loop-raw.invariant.reading) in
+    subst (λ k. Told k (λ logs. AreToldBy logs registry →
+    ahead logs registry c.args.reading.now.place ≡ raws_before (raw ∷ [])
+    (ahead logs registry c.place_behind-reading.result))) c.loop-raw.invariant.same
+    (subst (λ p. Told known (λ logs. AreToldBy logs registry →
+    ahead logs registry p ≡ raws_before (raw ∷ []) (ahead logs registry c.place_behind-reading.result)))
+    c.loop-raw.invariant.place
+    (subst (λ q. Told known (λ logs. AreToldBy logs registry →
+    ahead logs registry reading.place ≡ raws_before (raw ∷ []) (ahead logs registry q))) (sym c.place_behind-reading.ensures)
+    given.ahead_is))
 
 pub returns-in-Some-clause-stands : goal.returns-in-Some-clause-stands
 returns-in-Some-clause-stands g c =
@@ -24,5 +32,8 @@ returns-in-Some-clause-stands g c =
     let registry = c.args.registry.now in
     let reading = c.loop-raw.reading in
     let raw = c.in-Some.raw in
-    let given = gives known registry reading.place reading.front raw (into_iter_items c.next.new.self) reading.log (subst (λ w. IsReading known registry reading.place reading.front w reading.log) c.in-Some.ensures.items c.loop-raw.invariant.reading) in
-    subst (λ q. IsReading known registry q q (into_iter_items c.next.new.self) reading.log) (sym c.place_behind-reading.ensures) given.reading
+    let given = gives known registry reading.place reading.front raw (into_iter_items c.next.new.self) reading.log
+    (subst (λ w. IsReading known registry reading.place reading.front w reading.log) c.in-Some.ensures.items
+    c.loop-raw.invariant.reading) in
+    subst (λ q. IsReading known registry q q (into_iter_items c.next.new.self) reading.log)
+    (sym c.place_behind-reading.ensures) given.reading

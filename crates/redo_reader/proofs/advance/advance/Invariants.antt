@@ -10,7 +10,8 @@ invariant-loop-raw g l =
     let faults = g.A.Archive.faults in
     record {
       block : 0 < length l.reading.block.items;
-      reading : IsReading (logs l.archive) l.registry l.reading.place l.reading.front (into_iter_items l.reading.waiting) l.reading.log;
+      reading : IsReading (logs l.archive) l.registry l.reading.place l.reading.front
+          (into_iter_items l.reading.waiting) l.reading.log;
       waits : WaitsOn (into_iter_items l.fn.reading.waiting) (into_iter_items l.reading.waiting) (l.archive ≡ l.fn.archive);
       place : l.reading.place ≡ l.fn.reading.place;
       same : logs l.archive ≡ logs l.fn.archive;

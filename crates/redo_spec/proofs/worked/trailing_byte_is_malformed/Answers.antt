@@ -7,5 +7,6 @@ use Rattle.redo_vec.specs.Reading.{xid_at, content_at, text_at, value_at, cells_
 use Rattle.redo_spec.proofs.worked.trailing_byte_is_malformed.Goals as goal
 
 pub returns : goal.returns
-unfolding digits utf8_valid_len is_utf8 chars encode_utf8 xid_at content_at text_at value_at cells_from cells_at change_at name_at kind_at flag_at column_at columns_from count_at rising_from key_at keys_from keys_at table_at vector_at vectors_from record_at
+unfolding digits utf8_valid_len is_utf8 chars encode_utf8 xid_at content_at text_at value_at cells_from cells_at change_at name_at
+    kind_at flag_at column_at columns_from count_at rising_from key_at keys_from keys_at table_at vector_at vectors_from record_at
 returns c = record { trailing = refl }

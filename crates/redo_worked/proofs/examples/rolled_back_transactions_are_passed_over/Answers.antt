@@ -14,7 +14,13 @@ unfolding digits
 returns-clause-unknown c = refl
 
 pub returns-clause-fits_behind_a_commit : goal.returns-clause-fits_behind_a_commit
-returns-clause-fits_behind_a_commit c = record { order = omega arith; there = omega arith; well = refl; behind = (omega arith, tt); above = tt }
+returns-clause-fits_behind_a_commit c = record {
+  order = omega arith;
+  there = omega arith;
+  well = refl;
+  behind = (omega arith, tt);
+  above = tt;
+}
 
 pub returns-clause-before : goal.returns-clause-before
 unfolding digits

@@ -12,4 +12,5 @@ returns-clause-next c =
     let place : ℕ × List ℕ = (c.args.area, c.args.key.now) in
     let parted = parted_upto place_cmp place_total c.args.rows.now place (is_sorted-store c.args.rows.now c.requires.store) in
     next place_cmp place_total c.args.rows.now c.partition_point.result place c.partition_point.ensures.bound
-    (IsPartitionPoint-from_clause (λ (e : (ℕ × List ℕ) × List ℕ). not (is_lt (place_cmp place e.0))) _ _ c.partition_point.ensures.partitioned parted (λ a r q k. search rules))
+    (IsPartitionPoint-from_clause (λ (e : (ℕ × List ℕ) × List ℕ). not (is_lt (place_cmp place e.0))) _ _
+    c.partition_point.ensures.partitioned parted (λ a r q k. search rules))

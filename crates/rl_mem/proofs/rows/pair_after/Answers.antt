@@ -11,5 +11,7 @@ IfOk-moved (Err e) f x y p h = tt
 pub returns : goal.returns
 returns c =
     IfOk-moved c.first_pair.result _ _ _
-    (ap (λ l. first_in c.args.area l) c.split_at.ensures.back ∙ sym (next_pair-at c.next_of-at.result c.args.area c.args.key.now c.args.rows.now c.requires.store c.next_of-at.ensures.next))
+    (ap (λ l. first_in c.args.area l) c.split_at.ensures.back ∙
+    sym (next_pair-at c.next_of-at.result c.args.area c.args.key.now c.args.rows.now c.requires.store
+    c.next_of-at.ensures.next))
     c.first_pair.ensures

@@ -9,4 +9,5 @@ returns-in_err-put_bytes-clause-front g c =
 -- the line was written, and a front of the line end
 pub returns-clause-front : goal.returns-clause-front
 returns-clause-front g c =
-    OnErr-weaker _ _ _ (λ f. AppendsFront-behind _ _ _ _ _ (rw c.items.ensures.same at c.in_ok-put_bytes.ensures.bytes) f) c.put_bytes-2.ensures.front
+    OnErr-weaker _ _ _ (λ f. AppendsFront-behind _ _ _ _ _ (rw c.items.ensures.same at c.in_ok-put_bytes.ensures.bytes) f)
+    c.put_bytes-2.ensures.front

@@ -10,4 +10,5 @@ returns-in-Err c = sym (number_value-no_text _ c.in-Err.ensures.cases.0)
 -- nor is a text that is none
 pub returns-in-Err-from_str_radix : goal.returns-in-Err-from_str_radix
 returns-in-Err-from_str_radix c =
-    sym (subst (λ (b : List ℕ). number_value b ≡ None) c.in-Ok.ensures.cases.0 (number_value-no_numeral c.in-Ok.text.now c.in-Err-from_str_radix.ensures.value))
+    sym (subst (λ (b : List ℕ). number_value b ≡ None) c.in-Ok.ensures.cases.0
+    (number_value-no_numeral c.in-Ok.text.now c.in-Err-from_str_radix.ensures.value))

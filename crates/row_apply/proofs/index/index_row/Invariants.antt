@@ -6,7 +6,8 @@ use Rattle.row_apply.proofs.index.index_row.Given as goal
 -- what is left makes the whole of it
 abbrev pub invariant-loop-keys : goal.invariant-loop-keys
 invariant-loop-keys l = record {
-  rest : index_by l.table.id l.row l.key l.index l.keys l.owners.entries ≡ index_by l.table.id l.row l.key 1 (uniques_of l.table) l.initial.owners.entries;
+  rest : index_by l.table.id l.row l.key l.index l.keys l.owners.entries ≡
+      index_by l.table.id l.row l.key 1 (uniques_of l.table) l.initial.owners.entries;
   others : OwnersOnly l.table.id l.initial.owners.entries l.owners.entries;
   few : l.index + length l.keys ≤ 5;
 }

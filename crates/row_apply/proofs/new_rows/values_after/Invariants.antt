@@ -8,7 +8,8 @@ use Rattle.row_apply.proofs.new_rows.values_after.Given as goal
 -- with the values of the columns that are left it is the row
 abbrev pub invariant-loop-columns : goal.invariant-loop-columns
 invariant-loop-columns l = record {
-  whole : l.values.items ++ map (λ column. unwrap_or (cell_of l.cells column) (value_in l.row column)) (numbers_from l.column l.columns) ≡ with_cells l.table l.row l.cells;
+  whole : l.values.items ++ map (λ column. unwrap_or (cell_of l.cells column) (value_in l.row column))
+      (numbers_from l.column l.columns) ≡ with_cells l.table l.row l.cells;
   few : l.column + length l.columns ≤ 32;
 }
 

@@ -12,7 +12,8 @@ abbrev pub invariant-loop-keys : goal.invariant-loop-keys
 invariant-loop-keys g l =
     let rows = rows_without (values_of l.gone) (rows_seen (g.R.Rows.tables l.base) (slots_of l.over) l.table) in
     record {
-      rest : taken_by l.table rows l.row (enumerate_from l.index l.keys) ≡ taken_by l.table rows l.row (enumerate_from 1 (uniques_of l.table));
+      rest : taken_by l.table rows l.row (enumerate_from l.index l.keys) ≡
+          taken_by l.table rows l.row (enumerate_from 1 (uniques_of l.table));
       left : l.keys ≡ drop l.index l.table.keys;
       few : l.index + length l.keys ≤ 5;
       first : 1 ≤ l.index;

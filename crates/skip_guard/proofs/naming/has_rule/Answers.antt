@@ -9,5 +9,6 @@ use Rattle.skip_guard.proofs.naming.has_rule.Goals as goal
 pub returns : goal.returns
 returns c =
     let entries = c.args.entries.now in
-    any_from_yields_List (λ e. same_rule (rule_of e.rule) (rule_of c.args.rule.now)) _ _ _ c.any.ensures.ran (YieldsList-from_slice entries cc) (λ x b q k. search (rules, tests))
+    any_from_yields_List (λ e. same_rule (rule_of e.rule) (rule_of c.args.rule.now)) _ _ _ c.any.ensures.ran
+    (YieldsList-from_slice entries cc) (λ x b q k. search (rules, tests))
     ∙ sym (any_of_map (λ s. same_rule s.rule (rule_of c.args.rule.now)) skip_of entries)

@@ -9,5 +9,6 @@ use Rattle.skip_guard.proofs.naming.names_xid.Goals as goal
 pub returns : goal.returns
 returns c =
     let entries = c.args.entries.now in
-    any_from_yields_List (λ e. nat_le e.from c.args.at && names_xid (rule_of e.rule) c.args.id) _ _ _ c.any.ensures.ran (YieldsList-from_slice entries cc) (λ x b q k. search (rules, tests))
+    any_from_yields_List (λ e. nat_le e.from c.args.at && names_xid (rule_of e.rule) c.args.id) _ _ _ c.any.ensures.ran
+    (YieldsList-from_slice entries cc) (λ x b q k. search (rules, tests))
     ∙ sym (any_of_map (λ s. nat_le s.from c.args.at && names_xid s.rule c.args.id) skip_of entries)

@@ -12,7 +12,9 @@ invariant-loop-stop g l =
     let logs = g.A.Archive.logs in
     let faults = g.A.Archive.faults in
     record {
-      steps : Told (logs l.fn.reader.archive) (λ known. AreToldBy known l.fn.reader.registry → StepsOn (redo_ahead known l.fn.reader.registry l.fn.reader.place) (redo_ahead known l.reader.registry l.reader.place) l.fn.evaluator l.evaluator);
+      steps : Told (logs l.fn.reader.archive) (λ known. AreToldBy known l.fn.reader.registry →
+          StepsOn (redo_ahead known l.fn.reader.registry l.fn.reader.place) (redo_ahead known l.reader.registry l.reader.place)
+          l.fn.evaluator l.evaluator);
       registry : l.reader.registry ≡ l.fn.reader.registry;
       same : logs l.reader.archive ≡ logs l.fn.reader.archive;
       later : faults l.fn.reader.archive ≤ faults l.reader.archive;

@@ -8,8 +8,10 @@ returns-in_ok-took-in-Raw-clause-steps g c =
     let known = g.A.Archive.logs c.args.reader.now.archive in
     let old = c.args.reader.now in
     let new = c.cut.new.self in
-    subst (λ stop. StepsWhereTold known old.registry old.place new.registry new.place c.args.evaluator.now c.take_raw.new.evaluator stop) (sym c.stop_with-stop.ensures)
-    (raw_steps known old.registry old.place new.registry new.place c.in-Raw.raw c.args.evaluator.now c.take_raw.new.evaluator c.in_ok-took-in-Raw.took
+    subst (λ stop. StepsWhereTold known old.registry old.place new.registry new.place c.args.evaluator.now
+    c.take_raw.new.evaluator stop) (sym c.stop_with-stop.ensures)
+    (raw_steps known old.registry old.place new.registry new.place c.in-Raw.raw c.args.evaluator.now c.take_raw.new.evaluator
+    c.in_ok-took-in-Raw.took
     (subst (λ cut. CutGives known old.registry old.place new.registry new.place cut) c.in-Raw.is c.in_ok-stop.ensures.exact)
     (subst (λ cut. LeadsOn cut old.place new.place) c.in-Raw.is c.in_ok-stop.ensures.next)
     c.in_ok-took-in-Raw.ensures.taken)

@@ -10,11 +10,13 @@ use Rattle.tag_lock.proofs.lock.value_of.Given.{Over}
 
 -- the slot has a value that stands for the tag, and its rank is not below what the seat saw
 home : (g : Over) (c : After-take-slot g)
-    → (x : g.row.V.Denot) × (c.take-slot.result ≡ Some x) × StandsFor g.V.Tagged.stands c.args.seat.me.0.tag c.args.seat.me.0.start x × (c.args.seat.me.0.seen ≤ g.V.Tagged.height x)
+    → (x : g.row.V.Denot) × (c.take-slot.result ≡ Some x) ×
+    StandsFor g.V.Tagged.stands c.args.seat.me.0.tag c.args.seat.me.0.start x × (c.args.seat.me.0.seen ≤ g.V.Tagged.height x)
 home g c =
     let closed = c.close_with-closed.result in
     let seat = c.args.seat in
-    let h = ends g.V.Tagged.stands g.V.Tagged.height seat.id seat.me.0 (slots_items closed.words) (slots_items closed.slots) c.requires.all c.requires.idle c.close_with-closed.ensures.values.2 in
+    let h = ends g.V.Tagged.stands g.V.Tagged.height seat.id seat.me.0 (slots_items closed.words) (slots_items closed.slots)
+    c.requires.all c.requires.idle c.close_with-closed.ensures.values.2 in
     (h.0, some-injective c.take-slot.result (Some h.0) (sym c.take-slot.ensures.value ∙ h.1), h.2, h.3)
 
 pub unreachable-requires : goal.unreachable-requires

@@ -13,5 +13,7 @@ invariant_of-self c =
     rw c.push_back.ensures.items (
       c.self.invariant.0,
       rw (kept-whole full (xs ++ slots.Raw c.args.raw ∷ []) (omega (arith, e, room)))
-          (window-posted c.self.inside.first xs c.args.raw c.self.invariant.1 (omega (arith, c.from.ensures, c.if-from-self.false, c.len.ensures.len)) (search rules) (omega (arith, room, c.self.invariant.0)) c.requires.whole),
+          (window-posted c.self.inside.first xs c.args.raw c.self.invariant.1
+          (omega (arith, c.from.ensures, c.if-from-self.false, c.len.ensures.len)) (search rules)
+          (omega (arith, room, c.self.invariant.0)) c.requires.whole),
     )

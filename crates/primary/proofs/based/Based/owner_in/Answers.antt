@@ -16,10 +16,12 @@ returns-in_default c =
     let t = c.args.table.now in
     let q = c.args.key.now in
     let below : Beneath = record { dictionary = c.self.inside.dict.now; rows = c.self.inside.tables.now } in
-    let indexed : LeadsToRows t (rows_by b.rows q.table) c.self.inside.index.now = indexed_beneath below b c.self.inside.index.now t q.table c.self.view_is c.self.invariant c.requires.there in
+    let indexed : LeadsToRows t (rows_by b.rows q.table) c.self.inside.index.now =
+    indexed_beneath below b c.self.inside.index.now t q.table c.self.view_is c.self.invariant c.requires.there in
     let of : q.table ≡ t.id = sym (table_id b.dictionary.tables q.table t c.requires.there) in
     record {
-      owner = sym (leads_nowhere t (rows_by b.rows q.table) c.self.inside.index.now q c.requires.sound indexed of c.requires.unique c.requires.inside c.requires.filled
+      owner = sym (leads_nowhere t (rows_by b.rows q.table) c.self.inside.index.now q c.requires.sound indexed
+          of c.requires.unique c.requires.inside c.requires.filled
           (sym c.lead.ensures.found ∙ ap option_copied c.in_default.is));
     }
 
@@ -29,12 +31,15 @@ returns-in_default-get c =
     let t = c.args.table.now in
     let q = c.args.key.now in
     let below : Beneath = record { dictionary = c.self.inside.dict.now; rows = c.self.inside.tables.now } in
-    let indexed : LeadsToRows t (rows_by b.rows q.table) c.self.inside.index.now = indexed_beneath below b c.self.inside.index.now t q.table c.self.view_is c.self.invariant c.requires.there in
+    let indexed : LeadsToRows t (rows_by b.rows q.table) c.self.inside.index.now =
+    indexed_beneath below b c.self.inside.index.now t q.table c.self.view_is c.self.invariant c.requires.there in
     let of : q.table ≡ t.id = sym (table_id b.dictionary.tables q.table t c.requires.there) in
     record {
-      owner = sym (leads_to_none t (rows_by b.rows q.table) c.self.inside.index.now q c.in-Some.primary.now c.requires.sound indexed of c.requires.unique c.requires.inside c.requires.filled
+      owner = sym (leads_to_none t (rows_by b.rows q.table) c.self.inside.index.now q c.in-Some.primary.now c.requires.sound
+          indexed of c.requires.unique c.requires.inside c.requires.filled
           (sym c.lead.ensures.found ∙ ap option_copied c.in-Some.is)
-          (ap (λ (v : Beneath). find row_cmp c.in-Some.primary.now (rows_by v.rows q.table)) (sym c.self.view_is) ∙ sym c.get.ensures.found ∙ ap option_copied c.in_default-get.is));
+          (ap (λ (v : Beneath). find row_cmp c.in-Some.primary.now (rows_by v.rows q.table)) (sym c.self.view_is) ∙
+          sym c.get.ensures.found ∙ ap option_copied c.in_default-get.is));
     }
 
 pub returns-then-has_values : goal.returns-then-has_values
@@ -43,14 +48,19 @@ returns-then-has_values c =
     let t = c.args.table.now in
     let q = c.args.key.now in
     let row = c.in-Some-get.row.now in
-    let inside : q.index < length c.items.result.now = subst (λ (ks : List (List ℕ)). q.index < length ks) (sym c.items.ensures.same) c.requires.inside in
+    let inside : q.index < length c.items.result.now = subst (λ (ks : List (List ℕ)). q.index < length ks)
+    (sym c.items.ensures.same) c.requires.inside in
     let columns : c.items-2.result.now ≡ key_columns t q.index =
-    c.items-2.ensures.same ∙ sym (keyed c.items.result.now q.index c.index-items-key.result inside c.index-items-key.is) ∙ ap (λ (ks : List (List ℕ)). unwrap_or (slice_get ks q.index) []) c.items.ensures.same in
+    c.items-2.ensures.same ∙ sym (keyed c.items.result.now q.index c.index-items-key.result inside c.index-items-key.is) ∙
+    ap (λ (ks : List (List ℕ)). unwrap_or (slice_get ks q.index) []) c.items.ensures.same in
     let has : eq_by_cmp row_cmp (values_at row (key_columns t q.index)) q.values ≡ true =
-    (λ i. eq_by_cmp row_cmp (values_at row (sym columns i)) (sym c.values.ensures.same i)) ∙ sym c.has_values.ensures.exact ∙ c.if-has_values.true in
+    (λ i. eq_by_cmp row_cmp (values_at row (sym columns i)) (sym c.values.ensures.same i)) ∙ sym c.has_values.ensures.exact ∙
+    c.if-has_values.true in
     record {
-      owner = sym (leads_to_owner t (rows_by b.rows q.table) q c.in-Some.primary.now row c.requires.sound c.requires.unique c.requires.inside c.requires.filled
-          (ap (λ (v : Beneath). find row_cmp c.in-Some.primary.now (rows_by v.rows q.table)) (sym c.self.view_is) ∙ sym c.get.ensures.found ∙ ap option_copied c.in-Some-get.is) has);
+      owner = sym (leads_to_owner t (rows_by b.rows q.table) q c.in-Some.primary.now row c.requires.sound c.requires.unique
+          c.requires.inside c.requires.filled
+          (ap (λ (v : Beneath). find row_cmp c.in-Some.primary.now (rows_by v.rows q.table)) (sym c.self.view_is) ∙
+          sym c.get.ensures.found ∙ ap option_copied c.in-Some-get.is) has);
     }
 
 pub returns : goal.returns
@@ -60,15 +70,21 @@ returns c =
     let q = c.args.key.now in
     let row = c.in-Some-get.row.now in
     let below : Beneath = record { dictionary = c.self.inside.dict.now; rows = c.self.inside.tables.now } in
-    let indexed : LeadsToRows t (rows_by b.rows q.table) c.self.inside.index.now = indexed_beneath below b c.self.inside.index.now t q.table c.self.view_is c.self.invariant c.requires.there in
+    let indexed : LeadsToRows t (rows_by b.rows q.table) c.self.inside.index.now =
+    indexed_beneath below b c.self.inside.index.now t q.table c.self.view_is c.self.invariant c.requires.there in
     let of : q.table ≡ t.id = sym (table_id b.dictionary.tables q.table t c.requires.there) in
-    let inside : q.index < length c.items.result.now = subst (λ (ks : List (List ℕ)). q.index < length ks) (sym c.items.ensures.same) c.requires.inside in
+    let inside : q.index < length c.items.result.now = subst (λ (ks : List (List ℕ)). q.index < length ks)
+    (sym c.items.ensures.same) c.requires.inside in
     let columns : c.items-2.result.now ≡ key_columns t q.index =
-    c.items-2.ensures.same ∙ sym (keyed c.items.result.now q.index c.index-items-key.result inside c.index-items-key.is) ∙ ap (λ (ks : List (List ℕ)). unwrap_or (slice_get ks q.index) []) c.items.ensures.same in
+    c.items-2.ensures.same ∙ sym (keyed c.items.result.now q.index c.index-items-key.result inside c.index-items-key.is) ∙
+    ap (λ (ks : List (List ℕ)). unwrap_or (slice_get ks q.index) []) c.items.ensures.same in
     let differs : eq_by_cmp row_cmp (values_at row (key_columns t q.index)) q.values ≡ false =
-    (λ i. eq_by_cmp row_cmp (values_at row (sym columns i)) (sym c.values.ensures.same i)) ∙ sym c.has_values.ensures.exact ∙ c.if-has_values.false in
+    (λ i. eq_by_cmp row_cmp (values_at row (sym columns i)) (sym c.values.ensures.same i)) ∙ sym c.has_values.ensures.exact ∙
+    c.if-has_values.false in
     record {
-      owner = sym (leads_to_other t (rows_by b.rows q.table) c.self.inside.index.now q c.in-Some.primary.now row c.requires.sound indexed of c.requires.unique c.requires.inside c.requires.filled
+      owner = sym (leads_to_other t (rows_by b.rows q.table) c.self.inside.index.now q c.in-Some.primary.now row c.requires.sound
+          indexed of c.requires.unique c.requires.inside c.requires.filled
           (sym c.lead.ensures.found ∙ ap option_copied c.in-Some.is)
-          (ap (λ (v : Beneath). find row_cmp c.in-Some.primary.now (rows_by v.rows q.table)) (sym c.self.view_is) ∙ sym c.get.ensures.found ∙ ap option_copied c.in-Some-get.is) differs);
+          (ap (λ (v : Beneath). find row_cmp c.in-Some.primary.now (rows_by v.rows q.table)) (sym c.self.view_is) ∙
+          sym c.get.ensures.found ∙ ap option_copied c.in-Some-get.is) differs);
     }

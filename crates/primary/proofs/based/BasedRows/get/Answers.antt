@@ -13,7 +13,9 @@ pub returns : goal.returns
 returns c =
     let b = c.args.self.now in
     let key = c.args.key.now in
-    let there : IsSome (table_of b.dictionary.tables key.table) = subst (λ (us : List TableRow). IsSome (table_of us key.table)) (definitions_assembled b.dictionary.tables b.rows) c.requires.there in
+    let there : IsSome (table_of b.dictionary.tables key.table) =
+    subst (λ (us : List TableRow). IsSome (table_of us key.table)) (definitions_assembled b.dictionary.tables b.rows)
+    c.requires.there in
     record {
       row = c.get.ensures.found
           ∙ ap (λ (v : Beneath). find row_cmp key.values (rows_by v.rows key.table)) c.self.view_is

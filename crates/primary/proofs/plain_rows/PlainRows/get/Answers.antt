@@ -5,4 +5,7 @@ use Rattle.primary.proofs.MapLemmas.{find_is_lookup}
 use Rattle.primary.proofs.plain_rows.PlainRows.get.Goals as goal
 
 pub returns : goal.returns
-returns c = record { found = c.get.ensures.value ∙ find_is_lookup row_cmp c.args.key.now c.self.inside.rows.entries ∙ ap (λ es. find row_cmp c.args.key.now es) c.self.view_is }
+returns c = record {
+  found = c.get.ensures.value ∙ find_is_lookup row_cmp c.args.key.now c.self.inside.rows.entries ∙
+      ap (λ es. find row_cmp c.args.key.now es) c.self.view_is;
+}

@@ -6,7 +6,8 @@ use Rattle.primary.proofs.unique_index.UniqueIndex.leads_all.Given as goal
 -- the keys that are left decide
 abbrev pub invariant-loop-rest : goal.invariant-loop-rest
 invariant-loop-rest l = record {
-  same : leads_from l.self l.table.id l.number l.rest l.key l.row ≡ leads_from l.self l.table.id 1 (uniques_of l.table) l.key l.row;
+  same : leads_from l.self l.table.id l.number l.rest l.key l.row ≡
+      leads_from l.self l.table.id 1 (uniques_of l.table) l.key l.row;
   few : l.number + length l.rest ≤ 5;
 }
 

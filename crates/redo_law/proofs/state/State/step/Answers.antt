@@ -11,7 +11,8 @@ turned (Err x) f p = tt
 pub returns-clause-next : goal.returns-clause-next
 returns-clause-next c = turned c.take.result (λ p.
     subst (λ (s : Standing). BeganBefore (record { rec = s.rec; vec = c.args.vec + 1 }) s.active) (sym p)
-    (began_next c.args.self.now.dict.tables c.args.self.now.rec c.args.vec c.args.vector.now (txns_of c.args.self.now.table) c.requires.before)) c.take.ensures.done
+    (began_next c.args.self.now.dict.tables c.args.self.now.rec c.args.vec c.args.vector.now (txns_of c.args.self.now.table)
+    c.requires.before)) c.take.ensures.done
 
 pub returns-clause-same : goal.returns-clause-same
 returns-clause-same c = turned c.take.result (λ p. ap (λ (s : Standing). s.rec) p) c.take.ensures.done

@@ -8,16 +8,20 @@ use Rattle.redo_law.proofs.table.Table.nothing_survives.Goals as goal
 
 pub returns-in_default : goal.returns-in_default
 returns-in_default c =
-    sym (nothing_is c.args.xid (txns_of c.args.self.now) c.requires.apart ∙ ap is_bare (absent c.args.self.now c.args.xid c.requires (sym c.get.ensures.value ∙ ap option_copied c.in_default.is)))
+    sym (nothing_is c.args.xid (txns_of c.args.self.now) c.requires.apart ∙
+    ap is_bare (absent c.args.self.now c.args.xid c.requires (sym c.get.ensures.value ∙ ap option_copied c.in_default.is)))
 
 pub returns-in_default-get : goal.returns-in_default-get
 returns-in_default-get c =
-    let l = located c.args.self.now c.args.xid c.in-Some.start.now c.requires (sym c.get.ensures.value ∙ ap option_copied c.in-Some.is) in
+    let l = located c.args.self.now c.args.xid c.in-Some.start.now c.requires
+    (sym c.get.ensures.value ∙ ap option_copied c.in-Some.is) in
     some_none l.txn _ l.kept (sym c.get-2.ensures.value ∙ ap option_copied c.in_default-get.is)
 
 pub returns : goal.returns
 returns c =
-    let l = located c.args.self.now c.args.xid c.in-Some.start.now c.requires (sym c.get.ensures.value ∙ ap option_copied c.in-Some.is) in
-    let same : c.in-Some-get.open.now ≡ l.txn = some_is _ _ (sym (ap option_copied c.in-Some-get.is) ∙ c.get-2.ensures.value ∙ l.kept) in
+    let l = located c.args.self.now c.args.xid c.in-Some.start.now c.requires
+    (sym c.get.ensures.value ∙ ap option_copied c.in-Some.is) in
+    let same : c.in-Some-get.open.now ≡ l.txn = some_is _ _
+    (sym (ap option_copied c.in-Some-get.is) ∙ c.get-2.ensures.value ∙ l.kept) in
     c.has_none.ensures ∙ ap is_empty (c.items.ensures ∙ ap (λ o. o.keys) same)
     ∙ sym (nothing_is c.args.xid (txns_of c.args.self.now) c.requires.apart ∙ ap is_bare l.found)

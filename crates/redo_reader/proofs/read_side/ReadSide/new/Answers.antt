@@ -10,5 +10,7 @@ invariant_of-result g c =
     let known = g.A.Archive.logs c.args.archive in (
       omega (arith, c.in-Ok.ensures.len),
       subst (λ p. IsSide known c.args.registry p p (into_iter_items c.into_iter.result) None None) (sym c.clamped-place.ensures)
-          (subst (λ w. IsSide known c.args.registry (clamped_place c.args.registry c.args.place) (clamped_place c.args.registry c.args.place) w None None) (sym (c.into_iter.ensures.rest ∙ c.new.ensures.items)) (first_side known c.args.registry c.args.place c.requires.room)),
+          (subst (λ w. IsSide known c.args.registry (clamped_place c.args.registry c.args.place)
+          (clamped_place c.args.registry c.args.place) w None None) (sym (c.into_iter.ensures.rest ∙ c.new.ensures.items))
+          (first_side known c.args.registry c.args.place c.requires.room)),
     )

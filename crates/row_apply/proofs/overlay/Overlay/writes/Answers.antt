@@ -4,4 +4,7 @@ use Rattle.row_apply.proofs.Writing.{writes_rising}
 use Rattle.row_apply.proofs.overlay.Overlay.writes.Goals as goal
 
 pub of-requires : goal.of-requires
-of-requires c = record { rising = ap writes_rise c.in_ok-items.ensures ∙ writes_rising c.self.inside.written.rows.entries c.self.invariant.slots }
+of-requires c = record {
+  rising = ap writes_rise c.in_ok-items.ensures ∙
+      writes_rising c.self.inside.written.rows.entries c.self.invariant.slots;
+}

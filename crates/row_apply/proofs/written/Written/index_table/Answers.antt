@@ -8,8 +8,11 @@ returns-clause-kept c =
     let slots = c.mark.ensures.slots ∙ c.unmark.ensures.slots in
     record {
       slots = subst AreSlots (sym slots) c.requires.kept.slots;
-      index = index_marked c.args.table.now c.args.self.now.rows.entries c.mark.new.self.rows.entries c.args.self.now.owners.entries c.mark.new.self.owners.entries
-          c.args.self.now.indexed.entries c.unmark.new.self.indexed.entries c.mark.new.self.indexed.entries c.requires.kept.slots c.requires.kept.index c.requires.single slots
-          (c.mark.ensures.owners ∙ c.in_ok-index_rows.ensures.indexed ∙ (λ i. index_all c.args.table.now (c.unmark.ensures.slots i) (c.unmark.ensures.owners i)))
+      index = index_marked c.args.table.now c.args.self.now.rows.entries c.mark.new.self.rows.entries
+          c.args.self.now.owners.entries c.mark.new.self.owners.entries
+          c.args.self.now.indexed.entries c.unmark.new.self.indexed.entries c.mark.new.self.indexed.entries c.requires.kept.slots
+          c.requires.kept.index c.requires.single slots
+          (c.mark.ensures.owners ∙ c.in_ok-index_rows.ensures.indexed ∙
+          (λ i. index_all c.args.table.now (c.unmark.ensures.slots i) (c.unmark.ensures.owners i)))
           c.unmark.ensures.others c.mark.ensures.others (λ keys e. c.mark.ensures.only keys e ∙ c.in_ok-keys.ensures.equal);
     }

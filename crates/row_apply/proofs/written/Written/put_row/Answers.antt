@@ -10,14 +10,21 @@ returns-clause-kept c =
     let t = c.args.table.now in
     let key = c.args.key in
     let row = c.args.row in
-    let puts = subst (λ (old : Slots). Puts old c.put.new.self.rows.entries c.args.gone key row) c.unmark-keys.ensures.slots c.in_ok-put.ensures.put in
+    let puts = subst (λ (old : Slots). Puts old c.put.new.self.rows.entries c.args.gone key row) c.unmark-keys.ensures.slots
+    c.in_ok-put.ensures.put in
     record {
       slots = subst AreSlots (sym c.mark_again.ensures.slots) c.put.ensures.slots;
-      index = index_put t c.args.self.now.rows.entries c.mark_again.new.self.rows.entries c.args.self.now.owners.entries c.mark_again.new.self.owners.entries c.args.self.now.indexed.entries
-          c.unmark-keys.new.self.indexed.entries c.mark_again.new.self.indexed.entries c.args.gone key row c.requires.kept.index c.requires.indexed c.requires.key c.requires.gone c.requires.free
-          (subst (λ (new : Slots). Puts c.args.self.now.rows.entries new c.args.gone key row) (sym c.mark_again.ensures.slots) puts)
-          (c.mark_again.ensures.owners ∙ c.put.ensures.owners ∙ c.in_ok-index_row.ensures.indexed ∙ ap (λ os. index_by t.id row key 1 (uniques_of t) os) c.unmark-keys.ensures.owners)
+      index = index_put t c.args.self.now.rows.entries c.mark_again.new.self.rows.entries c.args.self.now.owners.entries
+          c.mark_again.new.self.owners.entries c.args.self.now.indexed.entries
+          c.unmark-keys.new.self.indexed.entries c.mark_again.new.self.indexed.entries c.args.gone key row c.requires.kept.index
+          c.requires.indexed c.requires.key c.requires.gone c.requires.free
+          (subst (λ (new : Slots). Puts c.args.self.now.rows.entries new c.args.gone key row)
+          (sym c.mark_again.ensures.slots) puts)
+          (c.mark_again.ensures.owners ∙ c.put.ensures.owners ∙ c.in_ok-index_row.ensures.indexed ∙
+          ap (λ os. index_by t.id row key 1 (uniques_of t) os) c.unmark-keys.ensures.owners)
           c.unmark-keys.ensures.others
-          (subst (λ (was : Indexed). IndexedOnly t.id was c.mark_again.new.self.indexed.entries) c.put.ensures.indexed c.mark_again.ensures.others)
-          (λ found e. found_keys c.unmark-keys.result c.args.self.now.indexed.entries t.id t.keys found c.unmark-keys.ensures.was c.requires.indexed (c.mark_again.ensures.only found e));
+          (subst (λ (was : Indexed). IndexedOnly t.id was c.mark_again.new.self.indexed.entries) c.put.ensures.indexed
+          c.mark_again.ensures.others)
+          (λ found e. found_keys c.unmark-keys.result c.args.self.now.indexed.entries t.id t.keys found c.unmark-keys.ensures.was
+          c.requires.indexed (c.mark_again.ensures.only found e));
     }

@@ -13,4 +13,5 @@ new-requires g c =
     subst
     (λ xs. rule (opening (2 * c.args.about.2 ∷ []) xs view))
     (sym slots)
-    (begins_known g.V.Tagged.stands g.V.Tagged.height c.args.value c.args.about.0.tag c.args.about.1.start c.args.about.2 c.requires.stands (search rules))
+    (begins_known g.V.Tagged.stands g.V.Tagged.height c.args.value c.args.about.0.tag c.args.about.1.start c.args.about.2
+    c.requires.stands (search rules))
