@@ -63,7 +63,8 @@ of_with f g x y keeps changes (t ∷ ts) =
                 ap (λ b. survivors_of (cond b (t ∷ later) later)) other ∙ same ∙
                 ap (λ b. map g (survivors_of (cond b (t ∷ rest) rest))) (sym other)
             | false ↦ λ is same.
-                elim (same_xid t.xid y) as (λ b. survivors_of (cond b (t ∷ later) later) ≡ survivors_of (cond b (t ∷ rest) rest)) [
+                elim (same_xid t.xid y) as (λ b. survivors_of (cond b (t ∷ later) later) ≡
+                survivors_of (cond b (t ∷ rest) rest)) [
                   | true ↦ ap (λ ss. t.survivors ∷ ss) same
                   | false ↦ same
                 ]

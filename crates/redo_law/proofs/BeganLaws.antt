@@ -5,15 +5,15 @@ use Rattle.std.proofs.lemmas.Map.Lookups.{exact_unsigned}
 use Rattle.std.specs.Ordering.{nat_cmp, ordering_then}
 use Rattle.rl_value.specs.declared.pos.Pos.{Pos}
 use Rattle.rl_value.specs.declared.xid.Xid.{Xid}
+use Rattle.rl_value.specs.Order.{pos_cmp}
 use Rattle.redo_vec.specs.declared.table.TableRow.{TableRow}
 use Rattle.redo_vec.specs.declared.vector.Vector.{Vector}
 use Rattle.redo_vec.specs.declared.vector.Vector.TheVariants.{Start, Change as OfChange, Undo, Commit, Rollback, Table, DictEnd}
 use Rattle.redo_spec.specs.ConflictKeys.{conflict_keys}
 use Rattle.redo_spec.specs.History.{same_xid}
 use Rattle.redo_spec.specs.Standing.{OpenTxn, with_open, without_open, open_txn_after_change, open_txn_after_undo, active_after}
-use Rattle.redo_law.specs.Held.{pos_cmp}
-use Rattle.redo_law.specs.OpenTable.{BeganBefore}
-use Rattle.redo_law.specs.Seen.{BeganBy}
+use Rattle.redo_law.specs.OpenTransactions.{BeganBefore}
+use Rattle.redo_law.specs.States.{BeganBy}
 
 nat_less : (a b : ℕ) → a < b → nat_cmp a b ≡ Less
 nat_less a b e = let test : nat_lt a b ≡ true = grind (arith, nat_tests, e) in

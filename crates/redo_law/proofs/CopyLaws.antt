@@ -10,14 +10,15 @@ use Rattle.std.specs.Ordering.{ordering_reverse, match_ordering}
 use Rattle.rl_value.specs.declared.key.Key.{Key}
 use Rattle.rl_value.specs.declared.pos.Pos.{Pos}
 use Rattle.rl_value.specs.declared.xid.Xid.{Xid}
-use Rattle.rl_value.specs.Order.{key_cmp}
+use Rattle.rl_value.specs.Order.{key_cmp, pos_cmp, xid_cmp}
 use Rattle.redo_spec.specs.Standing.{OpenTxn}
 use Rattle.redo_law.specs.declared.hold.Hold.{Hold}
 use Rattle.redo_law.specs.declared.survivors.Open.{Open}
-use Rattle.redo_law.specs.declared.table.Table.{Table}
-use Rattle.redo_law.specs.Held.{pos_cmp, xid_cmp, own_change}
-use Rattle.redo_law.specs.OpenTable.{opened_all, Keeps, IsTable}
-use Rattle.redo_law.specs.Seen.{BeganBy}
+use Rattle.redo_law.specs.declared.open_transactions.OpenTransactions.TheInside.{Inside}
+use Rattle.redo_law.specs.Held.{own_change}
+use Rattle.redo_law.specs.OpenTransactions.{entry_txns}
+use Rattle.redo_law.specs.Consistency.{Keeps, IsConsistent}
+use Rattle.redo_law.specs.States.{BeganBy}
 
 turned : {K : Type 0} (cmp : K → K → Ordering) → IsTotalOrder cmp → (k l : K) → cmp l k ≡ Less → cmp k l ≡ Greater
 turned cmp o k l e = o.antisymm k l ∙ ap ordering_reverse e
@@ -46,11 +47,11 @@ copied_step {K = K} {V = V} cmp o es rest left all new k v s whole first is =
     ap (λ (n : List (K × V)). n ++ left) is ∙ inserted_behind cmp o es (k, v) left
     (subst (λ (a : List (K × V)). IsStrictlySortedBy cmp (keys_of a)) (sym before) s) ∙ before
 
--- a table with the entries of another is one where the other is
-pub copied_table : (t u : Table) → IsTable t → u.xids.entries ≡ t.xids.entries → u.txns.entries ≡ t.txns.entries →
-    u.locks.entries ≡ t.locks.entries → u.survivors ≡ t.survivors → IsTable u
-copied_table t u h xids txns locks survivors =
-    subst (Keeps u) (sym (ap opened_all txns)) (record {
+-- what has the entries of consistent open transactions is consistent
+pub copied_consistent : (t u : Inside) → IsConsistent t → u.xids.entries ≡ t.xids.entries → u.txns.entries ≡ t.txns.entries →
+    u.locks.entries ≡ t.locks.entries → u.survivors ≡ t.survivors → IsConsistent u
+copied_consistent t u h xids txns locks survivors =
+    subst (Keeps u) (sym (ap entry_txns txns)) (record {
       ids = λ x. ap (λ (es : List (Xid × Pos)). lookup (is_at (xid_cmp x)) es) xids ∙ h.ids x;
       apart = h.apart;
       ordered = subst (λ (es : List (Pos × Open)). IsStrictlySortedBy pos_cmp (keys_of es)) (sym txns) h.ordered;

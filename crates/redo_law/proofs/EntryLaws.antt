@@ -11,14 +11,15 @@ use Rattle.std.specs.Ordering.{is_eq, ordering_reverse, match_ordering}
 use Rattle.std.specs.Option.{option_map, option_or}
 use Rattle.rl_value.specs.declared.pos.Pos.{Pos}
 use Rattle.rl_value.specs.declared.xid.Xid.{Xid}
+use Rattle.rl_value.specs.Order.{pos_cmp, xid_cmp, pos_total}
 use Rattle.redo_spec.specs.History.{same_xid}
 use Rattle.redo_spec.specs.Standing.{OpenTxn, with_open, without_open}
 use Rattle.redo_law.specs.declared.survivors.Open.{Open}
 use Rattle.redo_law.specs.Calls.{open_of}
-use Rattle.redo_law.specs.Held.{pos_cmp, xid_cmp, Apart}
-use Rattle.redo_law.specs.OpenTable.{opened, opened_all, change_count, BeganBefore}
-use Rattle.redo_law.proofs.Ids.{pos_total, xid_is, xid_at}
-use Rattle.redo_law.proofs.OpenList.{Keeps, with_open_none, closed_none, open_after_push, open_changed, open_beside_changed, open_closed, open_beside_closed}
+use Rattle.redo_law.specs.Held.{Apart}
+use Rattle.redo_law.specs.OpenTransactions.{entry_txn, entry_txns, change_count, BeganBefore}
+use Rattle.redo_law.proofs.Ids.{xid_is, xid_at}
+use Rattle.redo_law.proofs.OpenList.{KeepsId, with_open_none, closed_none, open_after_push, open_changed, open_beside_changed, open_closed, open_beside_closed}
 
 abbrev Sorted : List (Pos × Open) → Type 0
 Sorted es = IsStrictlySortedBy pos_cmp (keys_of es)
@@ -41,25 +42,26 @@ later_apart p q e = ap is_eq (later_greater p q e)
 
 -- the START of a transaction that is found is behind what all are behind
 found_later : (p : Pos) (x : Xid) (es : List (Pos × Open)) (t : OpenTxn) → AllByRecursion (λ q. pos_cmp p q ≡ Less) (keys_of es) →
-    open_of x (opened_all es) ≡ Some t → pos_cmp p t.start ≡ Less
+    open_of x (entry_txns es) ≡ Some t → pos_cmp p t.start ≡ Less
 found_later p x [] t all e = absurd (cc)
 found_later p x (f ∷ es) t all e =
-    elim (same_xid f.1.xid x) as (λ b. cond b (Some (opened f)) (open_of x (opened_all es)) ≡ Some t → pos_cmp p t.start ≡ Less) [
-      | true ↦ λ h. ap (λ u. pos_cmp p u.start) (sym (some_is (opened f) t h)) ∙ all.0
+    elim (same_xid f.1.xid x) as (λ b. cond b (Some (entry_txn f)) (open_of x (entry_txns es)) ≡ Some t →
+    pos_cmp p t.start ≡ Less) [
+      | true ↦ λ h. ap (λ u. pos_cmp p u.start) (sym (some_is (entry_txn f) t h)) ∙ all.0
       | false ↦ λ h. found_later p x es t all.1 h
     ] e
 
 -- what is kept at its START
-pub kept_at : (x : Xid) (es : List (Pos × Open)) (t : OpenTxn) → Sorted es → open_of x (opened_all es) ≡ Some t →
+pub kept_at : (x : Xid) (es : List (Pos × Open)) (t : OpenTxn) → Sorted es → open_of x (entry_txns es) ≡ Some t →
     lookup (is_at (pos_cmp t.start)) es ≡ Some (record { xid = t.xid; keys = t.keys })
 kept_at x [] t sorted e = absurd (cc)
 kept_at x (f ∷ es) t sorted e =
-    elim (same_xid f.1.xid x) as (λ b. cond b (Some (opened f)) (open_of x (opened_all es)) ≡ Some t →
+    elim (same_xid f.1.xid x) as (λ b. cond b (Some (entry_txn f)) (open_of x (entry_txns es)) ≡ Some t →
     cond (is_at (pos_cmp t.start) f.0) (Some f.1) (lookup (is_at (pos_cmp t.start)) es) ≡
     Some (record { xid = t.xid; keys = t.keys })) [
       | true ↦ λ h.
           subst (λ (u : OpenTxn). cond (is_at (pos_cmp u.start) f.0) (Some f.1) (lookup (is_at (pos_cmp u.start)) es) ≡
-          Some (record { xid = u.xid; keys = u.keys })) (some_is (opened f) t h)
+          Some (record { xid = u.xid; keys = u.keys })) (some_is (entry_txn f) t h)
           (ap (λ b. cond b (Some f.1) (lookup (is_at (pos_cmp f.0)) es)) (pos_itself f.0))
       | false ↦ λ h.
           ap (λ b. cond b (Some f.1) (lookup (is_at (pos_cmp t.start)) es))
@@ -70,54 +72,54 @@ kept_at x (f ∷ es) t sorted e =
 -- ---- the list after a change of the entries
 
 pub set_changed : (f : OpenTxn → OpenTxn) (x : Xid) (es : List (Pos × Open)) (t : OpenTxn) (w : Open) → Sorted es →
-    Apart (opened_all es) → open_of x (opened_all es) ≡ Some t → opened (t.start, w) ≡ f t →
-    opened_all (set_value (is_at (pos_cmp t.start)) es w) ≡ with_open f x (opened_all es)
+    Apart (entry_txns es) → open_of x (entry_txns es) ≡ Some t → entry_txn (t.start, w) ≡ f t →
+    entry_txns (set_value (is_at (pos_cmp t.start)) es w) ≡ with_open f x (entry_txns es)
 set_changed f x [] t w sorted apart e is = refl
 set_changed f x (g ∷ es) t w sorted apart e is =
-    elim (same_xid g.1.xid x) as (λ b. same_xid g.1.xid x ≡ b → cond b (Some (opened g)) (open_of x (opened_all es)) ≡ Some t →
-    opened_all (cond (is_at (pos_cmp t.start) g.0) ((g.0, w) ∷ es) (g ∷ set_value (is_at (pos_cmp t.start)) es w)) ≡
-    (cond b (f (opened g)) (opened g) ∷ with_open f x (opened_all es))) [
+    elim (same_xid g.1.xid x) as (λ b. same_xid g.1.xid x ≡ b → cond b (Some (entry_txn g)) (open_of x (entry_txns es)) ≡ Some t →
+    entry_txns (cond (is_at (pos_cmp t.start) g.0) ((g.0, w) ∷ es) (g ∷ set_value (is_at (pos_cmp t.start)) es w)) ≡
+    (cond b (f (entry_txn g)) (entry_txn g) ∷ with_open f x (entry_txns es))) [
       | true ↦ λ own h.
-          let here : opened g ≡ t = some_is (opened g) t h in
+          let here : entry_txn g ≡ t = some_is (entry_txn g) t h in
           let start : g.0 ≡ t.start = ap (λ u. u.start) here in
-          let none = ap (λ i. open_of i (opened_all es)) (sym (xid_is g.1.xid x own)) ∙ apart.0 in
-          ap (λ p. opened_all (cond (is_at (pos_cmp p) g.0) ((g.0, w) ∷ es) (g ∷ set_value (is_at (pos_cmp p)) es w))) (sym start)
-          ∙ ap (λ b. opened_all (cond b ((g.0, w) ∷ es) (g ∷ set_value (is_at (pos_cmp g.0)) es w))) (pos_itself g.0)
-          ∙ ap (λ p. opened (p, w) ∷ opened_all es) start
-          ∙ ap (λ u. u ∷ opened_all es) (is ∙ ap f (sym here))
-          ∙ sym (ap (λ us. f (opened g) ∷ us) (with_open_none f x (opened_all es) none))
+          let none = ap (λ i. open_of i (entry_txns es)) (sym (xid_is g.1.xid x own)) ∙ apart.0 in
+          ap (λ p. entry_txns (cond (is_at (pos_cmp p) g.0) ((g.0, w) ∷ es) (g ∷ set_value (is_at (pos_cmp p)) es w))) (sym start)
+          ∙ ap (λ b. entry_txns (cond b ((g.0, w) ∷ es) (g ∷ set_value (is_at (pos_cmp g.0)) es w))) (pos_itself g.0)
+          ∙ ap (λ p. entry_txn (p, w) ∷ entry_txns es) start
+          ∙ ap (λ u. u ∷ entry_txns es) (is ∙ ap f (sym here))
+          ∙ sym (ap (λ us. f (entry_txn g) ∷ us) (with_open_none f x (entry_txns es) none))
       | false ↦ λ own h.
-          ap (λ b. opened_all (cond b ((g.0, w) ∷ es) (g ∷ set_value (is_at (pos_cmp t.start)) es w)))
+          ap (λ b. entry_txns (cond b ((g.0, w) ∷ es) (g ∷ set_value (is_at (pos_cmp t.start)) es w)))
           (later_apart g.0 t.start (found_later g.0 x es t (sorted_head pos_cmp g.0 (keys_of es) sorted) h))
-          ∙ ap (λ us. opened g ∷ us) (set_changed f x es t w (sorted_tail pos_cmp g.0 (keys_of es) sorted) apart.1 h is)
+          ∙ ap (λ us. entry_txn g ∷ us) (set_changed f x es t w (sorted_tail pos_cmp g.0 (keys_of es) sorted) apart.1 h is)
     ] refl e
 
-pub removed_closed : (x : Xid) (es : List (Pos × Open)) (t : OpenTxn) → Sorted es → Apart (opened_all es) →
-    open_of x (opened_all es) ≡ Some t → opened_all (remove_entry (is_at (pos_cmp t.start)) es) ≡ without_open x (opened_all es)
+pub removed_closed : (x : Xid) (es : List (Pos × Open)) (t : OpenTxn) → Sorted es → Apart (entry_txns es) →
+    open_of x (entry_txns es) ≡ Some t → entry_txns (remove_entry (is_at (pos_cmp t.start)) es) ≡ without_open x (entry_txns es)
 removed_closed x [] t sorted apart e = refl
 removed_closed x (g ∷ es) t sorted apart e =
-    elim (same_xid g.1.xid x) as (λ b. same_xid g.1.xid x ≡ b → cond b (Some (opened g)) (open_of x (opened_all es)) ≡ Some t →
-    opened_all (cond (is_at (pos_cmp t.start) g.0) es (g ∷ remove_entry (is_at (pos_cmp t.start)) es)) ≡
-    cond (not b) (opened g ∷ without_open x (opened_all es)) (without_open x (opened_all es))) [
+    elim (same_xid g.1.xid x) as (λ b. same_xid g.1.xid x ≡ b → cond b (Some (entry_txn g)) (open_of x (entry_txns es)) ≡ Some t →
+    entry_txns (cond (is_at (pos_cmp t.start) g.0) es (g ∷ remove_entry (is_at (pos_cmp t.start)) es)) ≡
+    cond (not b) (entry_txn g ∷ without_open x (entry_txns es)) (without_open x (entry_txns es))) [
       | true ↦ λ own h.
-          let start : g.0 ≡ t.start = ap (λ u. u.start) (some_is (opened g) t h) in
-          let none = ap (λ i. open_of i (opened_all es)) (sym (xid_is g.1.xid x own)) ∙ apart.0 in
-          ap (λ p. opened_all (cond (is_at (pos_cmp p) g.0) es (g ∷ remove_entry (is_at (pos_cmp p)) es))) (sym start)
-          ∙ ap (λ b. opened_all (cond b es (g ∷ remove_entry (is_at (pos_cmp g.0)) es))) (pos_itself g.0)
-          ∙ sym (closed_none x (opened_all es) none)
+          let start : g.0 ≡ t.start = ap (λ u. u.start) (some_is (entry_txn g) t h) in
+          let none = ap (λ i. open_of i (entry_txns es)) (sym (xid_is g.1.xid x own)) ∙ apart.0 in
+          ap (λ p. entry_txns (cond (is_at (pos_cmp p) g.0) es (g ∷ remove_entry (is_at (pos_cmp p)) es))) (sym start)
+          ∙ ap (λ b. entry_txns (cond b es (g ∷ remove_entry (is_at (pos_cmp g.0)) es))) (pos_itself g.0)
+          ∙ sym (closed_none x (entry_txns es) none)
       | false ↦ λ own h.
-          ap (λ b. opened_all (cond b es (g ∷ remove_entry (is_at (pos_cmp t.start)) es)))
+          ap (λ b. entry_txns (cond b es (g ∷ remove_entry (is_at (pos_cmp t.start)) es)))
           (later_apart g.0 t.start (found_later g.0 x es t (sorted_head pos_cmp g.0 (keys_of es) sorted) h))
-          ∙ ap (λ us. opened g ∷ us) (removed_closed x es t (sorted_tail pos_cmp g.0 (keys_of es) sorted) apart.1 h)
+          ∙ ap (λ us. entry_txn g ∷ us) (removed_closed x es t (sorted_tail pos_cmp g.0 (keys_of es) sorted) apart.1 h)
     ] refl e
 
-pub inserted_last : (at : Pos) (o : Open) (es : List (Pos × Open)) → BeganBefore at (opened_all es) →
-    opened_all (insert_entry pos_cmp es at o) ≡ opened_all es ++ opened (at, o) ∷ []
+pub inserted_last : (at : Pos) (o : Open) (es : List (Pos × Open)) → BeganBefore at (entry_txns es) →
+    entry_txns (insert_entry pos_cmp es at o) ≡ entry_txns es ++ entry_txn (at, o) ∷ []
 inserted_last at o [] before = refl
 inserted_last at o (g ∷ es) before =
-    ap (λ r. opened_all (match_ordering r ((at, o) ∷ g ∷ es) ((g.0, o) ∷ es) (g ∷ insert_entry pos_cmp es at o)))
+    ap (λ r. entry_txns (match_ordering r ((at, o) ∷ g ∷ es) ((g.0, o) ∷ es) (g ∷ insert_entry pos_cmp es at o)))
     (later_greater g.0 at before.0)
-    ∙ ap (λ us. opened g ∷ us) (inserted_last at o es before.1)
+    ∙ ap (λ us. entry_txn g ∷ us) (inserted_last at o es before.1)
 
 -- ---- how many surviving changes there are
 
@@ -193,7 +195,7 @@ starts_push ts t fresh y =
     ] refl
     ∙ sym (ap (option_map (λ u. u.start)) (open_after_push y ts t))
 
-pub starts_changed : (f : OpenTxn → OpenTxn) → Keeps f → ((t : OpenTxn) → (f t).start ≡ t.start) →
+pub starts_changed : (f : OpenTxn → OpenTxn) → KeepsId f → ((t : OpenTxn) → (f t).start ≡ t.start) →
     (x : Xid) (ts : List OpenTxn) (y : Xid) → starts ts y ≡ starts (with_open f x ts) y
 starts_changed f keeps same x ts y =
     elim (same_xid x y) as (λ b. same_xid x y ≡ b → starts ts y ≡ starts (with_open f x ts) y) [

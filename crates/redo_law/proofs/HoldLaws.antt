@@ -189,7 +189,7 @@ pub holds_undo : (holds after : Key → Option Hold) (x : Xid) (front : List (Li
     t.keys ≡ front ++ ks ∷ [] → take (length t.keys - 1) t.keys ≡ front → Holds holds ts →
     ((k : Key) → after k ≡ cond (has_key k ks && is_hold x (length front) (holds k)) None (holds k)) →
     Holds after (with_open open_txn_after_undo x ts)
-holds_undo holds after x front ks ts t found split taken h is k y =
+holds_undo holds after x front ks ts t found split hold_after_take h is k y =
     elim (same_xid x y) as (λ b. same_xid x y ≡ b → change_in k (open_of y (with_open open_txn_after_undo x ts)) ≡
     own_change y (after k)) [
       | true ↦ λ same.
@@ -199,7 +199,7 @@ holds_undo holds after x front ks ts t found split taken h is k y =
           ∙ sym (first_append k 0 front ks) ∙ ap (first_from k 0) (sym split) ∙ sym (ap (change_in k) found) ∙ h k x in
           ap (λ z. change_in k (open_of z (with_open open_txn_after_undo x ts))) (sym (xid_is x y same))
           ∙ ap (change_in k) (open_changed open_txn_after_undo (λ u. refl) x ts ∙ ap (option_map open_txn_after_undo) found)
-          ∙ ap (first_from k 0) taken
+          ∙ ap (first_from k 0) hold_after_take
           ∙ undo_own x (length front) (first_from k 0 front) (has_key k ks) (holds k)
           (λ i e. let below = first_below k 0 front i e in omega (arith, below)) was
           ∙ ap (own_change x) (sym (is k))

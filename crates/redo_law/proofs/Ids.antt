@@ -1,12 +1,11 @@
--- Transaction ids and positions: equal exactly where their order says so.
+-- Transaction ids: equal exactly where their order says so.
 use Rattle.std.proofs.Common.{◌≡◌, ℕ, refl, Bool, true, false, ◌&&◌, ◌==◌, arith}
 use Rattle.std.proofs.lemmas.Bool.Decides.{nat_tests}
 use Rattle.std.proofs.Common.{Ordering, Less, Equal, Greater}
 use Rattle.std.specs.Ordering.{is_eq, nat_cmp, ordering_then}
-use Rattle.std.specs.Cmp.{IsTotalOrder, on_total, then_total, nat_cmp_total}
 use Rattle.rl_value.specs.declared.xid.Xid.{Xid}
+use Rattle.rl_value.specs.Order.{xid_cmp}
 use Rattle.redo_spec.specs.History.{same_xid}
-use Rattle.redo_law.specs.Held.{pos_cmp, xid_cmp}
 
 pub both : (a b : Bool) → (a && b) ≡ true → (a ≡ true) × (b ≡ true)
 both true true e = (refl, refl)
@@ -59,10 +58,3 @@ xid_at x y =
       cmp_eq x.sqn y.sqn,
     )
     (and_assoc (x.usn == y.usn) (x.slot == y.slot) (x.sqn == y.sqn))
-
-pub pos_total : IsTotalOrder pos_cmp
-pos_total = then_total (on_total (λ p. p.rec) nat_cmp_total) (on_total (λ p. p.vec) nat_cmp_total)
-
-pub xid_total : IsTotalOrder xid_cmp
-xid_total = then_total (on_total (λ x. x.usn) nat_cmp_total)
-    (then_total (on_total (λ x. x.slot) nat_cmp_total) (on_total (λ x. x.sqn) nat_cmp_total))

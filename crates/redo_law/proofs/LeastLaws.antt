@@ -12,7 +12,7 @@ use Rattle.redo_spec.specs.Locks.{held_keys, least, lesser}
 use Rattle.redo_spec.specs.Standing.{OpenTxn}
 use Rattle.redo_law.specs.declared.hold.Hold.{Hold}
 use Rattle.redo_law.specs.Calls.{open_of}
-use Rattle.redo_law.specs.Held.{Holds, has_key, first_from, change_in, own_change, if_blocked, blocked, kept_out, Apart}
+use Rattle.redo_law.specs.Held.{Holds, has_key, first_from, change_in, own_change, if_blocked, blocked_keys, contended_keys, Apart}
 use Rattle.redo_law.proofs.Exact.{key_exact, key_is, key_itself}
 use Rattle.redo_law.proofs.Ids.{both, xid_is, xid_itself}
 use Rattle.redo_law.proofs.OpenList.{found_id}
@@ -173,7 +173,8 @@ append_back a (x ∷ xs) ys among = inr (append_back a xs ys among)
 in_filter : {A : Type 0} (test : A → Bool) (a : A) (xs : List A) → IsIn a (filter test xs) → IsIn a xs × (test a ≡ true)
 in_filter test a [] among = absurd among
 in_filter test a (x ∷ xs) among =
-    elim (test x) as (λ b. test x ≡ b → IsIn a (cond b (x ∷ filter test xs) (filter test xs)) → IsIn a (x ∷ xs) × (test a ≡ true)) [
+    elim (test x) as (λ b. test x ≡ b → IsIn a (cond b (x ∷ filter test xs) (filter test xs)) → IsIn a (x ∷ xs) ×
+    (test a ≡ true)) [
       | true ↦ λ is m. elim m as (λ n. IsIn a (x ∷ xs) × (test a ≡ true)) [
         | inl same ↦ (inl same, ap test same ∙ is)
         | inr later ↦ let rest = in_filter test a xs later in (inr rest.0, rest.1)
@@ -310,15 +311,16 @@ later_blocked holds x k ks p b = record {
   touched = inr b.touched;
 }
 
-in_blocked : (holds : Key → Option Hold) (x : Xid) (ks : List Key) (p : Key × Xid) → IsIn p (blocked holds x ks) →
+in_blocked : (holds : Key → Option Hold) (x : Xid) (ks : List Key) (p : Key × Xid) → IsIn p (blocked_keys holds x ks) →
     IsBlocked holds x ks p
 in_blocked holds x [] p among = absurd among
 in_blocked holds x (k ∷ ks) p among =
-    elim (holds k) as (λ o. holds k ≡ o → IsIn p (if_blocked x k o (blocked holds x ks)) → IsBlocked holds x (k ∷ ks) p) [
+    elim (holds k) as (λ o. holds k ≡ o → IsIn p (if_blocked x k o (blocked_keys holds x ks)) → IsBlocked holds x (k ∷ ks) p) [
       | None ↦ λ is m. later_blocked holds x k ks p (in_blocked holds x ks p m)
       | Some h ↦ λ is m.
           elim (same_xid h.holder x) as (λ b. same_xid h.holder x ≡ b →
-          IsIn p (cond b (blocked holds x ks) ((k, h.holder) ∷ blocked holds x ks)) → IsBlocked holds x (k ∷ ks) p) [
+          IsIn p (cond b (blocked_keys holds x ks) ((k, h.holder) ∷ blocked_keys holds x ks)) →
+          IsBlocked holds x (k ∷ ks) p) [
             | true ↦ λ own n. later_blocked holds x k ks p (in_blocked holds x ks p n)
             | false ↦ λ own n. elim n as (λ a. IsBlocked holds x (k ∷ ks) p) [
               | inl same ↦ record {
@@ -334,21 +336,21 @@ in_blocked holds x (k ∷ ks) p among =
     ] refl among
 
 blocked_in : (holds : Key → Option Hold) (x : Xid) (ks : List Key) (k : Key) (h : Hold) → holds k ≡ Some h →
-    same_xid h.holder x ≡ false → IsIn k ks → IsIn (k, h.holder) (blocked holds x ks)
+    same_xid h.holder x ≡ false → IsIn k ks → IsIn (k, h.holder) (blocked_keys holds x ks)
 blocked_in holds x [] k h held other among = absurd among
 blocked_in holds x (l ∷ ls) k h held other among = elim among
-    as (λ m. IsIn (k, h.holder) (if_blocked x l (holds l) (blocked holds x ls))) [
+    as (λ m. IsIn (k, h.holder) (if_blocked x l (holds l) (blocked_keys holds x ls))) [
       | inl same ↦
-          (subst (λ (j : Key). IsIn (k, h.holder) (if_blocked x j (holds j) (blocked holds x ls))) same
-          (subst (λ (o : Option Hold). IsIn (k, h.holder) (if_blocked x k o (blocked holds x ls))) (sym held)
-          (subst (λ (b : Bool). IsIn (k, h.holder) (cond b (blocked holds x ls) ((k, h.holder) ∷ blocked holds x ls)))
+          (subst (λ (j : Key). IsIn (k, h.holder) (if_blocked x j (holds j) (blocked_keys holds x ls))) same
+          (subst (λ (o : Option Hold). IsIn (k, h.holder) (if_blocked x k o (blocked_keys holds x ls))) (sym held)
+          (subst (λ (b : Bool). IsIn (k, h.holder) (cond b (blocked_keys holds x ls) ((k, h.holder) ∷ blocked_keys holds x ls)))
           (sym other) (inl refl))))
       | inr later ↦
           let rest = blocked_in holds x ls k h held other later in
-          elim (holds l) as (λ o. IsIn (k, h.holder) (if_blocked x l o (blocked holds x ls))) [
+          elim (holds l) as (λ o. IsIn (k, h.holder) (if_blocked x l o (blocked_keys holds x ls))) [
             | None ↦ rest
             | Some g ↦ elim (same_xid g.holder x) as (λ b. IsIn (k, h.holder)
-                (cond b (blocked holds x ls) ((l, g.holder) ∷ blocked holds x ls))) [
+                (cond b (blocked_keys holds x ls) ((l, g.holder) ∷ blocked_keys holds x ls))) [
                   | true ↦ rest
                   | false ↦ inr rest
                 ]
@@ -388,7 +390,7 @@ abbrev keeps_out : Xid → List Key → Key × Xid → Bool
 keeps_out x ks k = not (same_xid k.1 x) && list_any (eq_by_cmp key_cmp k.0) ks
 
 out_from_blocked : (holds : Key → Option Hold) (x : Xid) (ks : List Key) (ts : List OpenTxn) → Holds holds ts → (p : Key × Xid) →
-    IsBlocked holds x ks p → IsIn p (kept_out x ks ts)
+    IsBlocked holds x ks p → IsIn p (contended_keys x ks ts)
 out_from_blocked holds x ks ts h p b =
     let first : change_in p.0 (open_of b.hold.holder ts) ≡ Some b.hold.change =
     h p.0 b.hold.holder ∙ ap (own_change b.hold.holder) b.held ∙
@@ -401,7 +403,7 @@ out_from_blocked holds x ks ts h p b =
     (two (same_xid p.1 x) _ (ap (λ i. same_xid i x) b.holder ∙ b.other) (keys_in p.0 ks b.touched))
 
 blocked_from_out : (holds : Key → Option Hold) (x : Xid) (ks : List Key) (ts : List OpenTxn) → Holds holds ts → Apart ts →
-    (p : Key × Xid) → IsIn p (kept_out x ks ts) → IsIn p (blocked holds x ks)
+    (p : Key × Xid) → IsIn p (contended_keys x ks ts) → IsIn p (blocked_keys holds x ks)
 blocked_from_out holds x ks ts h a p among =
     let parts = in_filter (keeps_out x ks) p (held_keys ts) among in
     let held = in_held p ts parts.0 in
@@ -411,11 +413,11 @@ blocked_from_out holds x ks ts h a p among =
     let own = own_is held.txn.xid (holds p.0) first.0 (sym (h p.0 held.txn.xid) ∙ ap (change_in p.0) found ∙ first.1) in
     let id : own.0.holder ≡ p.1 = own.2 ∙ sym held.holder in
     let pair : (p.0, own.0.holder) ≡ p = ap (λ i. (p.0, i)) id in
-    subst (λ (q : Key × Xid). IsIn q (blocked holds x ks)) pair
+    subst (λ (q : Key × Xid). IsIn q (blocked_keys holds x ks)) pair
     (blocked_in holds x ks p.0 own.0 own.1 (ap (λ i. same_xid i x) id ∙ not_true (same_xid p.1 x) tests.0)
     (in_keys p.0 ks tests.1))
 
-single_blocked : (holds : Key → Option Hold) (x : Xid) (ks : List Key) → IsSingle (blocked holds x ks)
+single_blocked : (holds : Key → Option Hold) (x : Xid) (ks : List Key) → IsSingle (blocked_keys holds x ks)
 single_blocked holds x ks p q p_in q_in same =
     let a = in_blocked holds x ks p p_in in
     let b = in_blocked holds x ks q q_in in
@@ -425,16 +427,17 @@ single_blocked holds x ks p q p_in q_in same =
 
 -- the least key that keeps a change out, found by the change's own keys
 pub least_blocked : (holds : Key → Option Hold) (x : Xid) (ks : List Key) (ts : List OpenTxn) → Holds holds ts → Apart ts →
-    least (blocked holds x ks) ≡ least (kept_out x ks ts)
+    least (blocked_keys holds x ks) ≡ least (contended_keys x ks ts)
 least_blocked holds x ks ts h a =
-    least_same (blocked holds x ks) (kept_out x ks ts) (λ p among. out_from_blocked holds x ks ts h p
-    (in_blocked holds x ks p among)) (blocked_from_out holds x ks ts h a) (single_blocked holds x ks)
+    least_same (blocked_keys holds x ks) (contended_keys x ks ts)
+    (λ p among. out_from_blocked holds x ks ts h p (in_blocked holds x ks p among)) (blocked_from_out holds x ks ts h a)
+    (single_blocked holds x ks)
 
 -- where nothing keeps a change out, its keys are free or the transaction's own
-pub free_of_blocked : (holds : Key → Option Hold) (x : Xid) (ks : List Key) → least (blocked holds x ks) ≡ None →
+pub free_of_blocked : (holds : Key → Option Hold) (x : Xid) (ks : List Key) → least (blocked_keys holds x ks) ≡ None →
     (k : Key) (h : Hold) → has_key k ks ≡ true → holds k ≡ Some h → same_xid h.holder x ≡ true
 free_of_blocked holds x ks e k h among held =
     elim (same_xid h.holder x) as (λ b. same_xid h.holder x ≡ b → b ≡ true) [
       | true ↦ λ is. refl
-      | false ↦ λ is. in_none (k, h.holder) (blocked holds x ks) (blocked_in holds x ks k h held is (in_keys k ks among)) e
+      | false ↦ λ is. in_none (k, h.holder) (blocked_keys holds x ks) (blocked_in holds x ks k h held is (in_keys k ks among)) e
     ] refl

@@ -5,7 +5,7 @@ mod Exact
 mod LeastLaws
 mod LockSteps
 mod EntryLaws
-mod TableLaws
+mod TransactionLaws
 mod CellLaws
 mod KeySetLaws
 mod BeganLaws

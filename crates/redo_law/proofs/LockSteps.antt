@@ -8,7 +8,7 @@ use Rattle.rl_value.specs.declared.key.Key.{Key}
 use Rattle.rl_value.specs.declared.xid.Xid.{Xid}
 use Rattle.rl_value.specs.Order.{key_cmp, key_total}
 use Rattle.redo_law.specs.declared.hold.Hold.{Hold}
-use Rattle.redo_law.specs.Held.{has_key, is_hold, taken, freed, freed_at, freed_each}
+use Rattle.redo_law.specs.Held.{has_key, is_hold, hold_after_take, hold_after_free, hold_after_undo, hold_after_end}
 use Rattle.redo_law.proofs.Exact.{key_is}
 
 -- what a result that is no error ensures
@@ -34,7 +34,7 @@ or_no false = refl
 
 -- ---- taking
 
-pub taken_none : (holds : Key → Option Hold) (h : Hold) (q : Key) → taken holds [] h q ≡ holds q
+pub taken_none : (holds : Key → Option Hold) (h : Hold) (q : Key) → hold_after_take holds [] h q ≡ holds q
 taken_none holds h q = elim (holds q) as (λ o. option_or o None ≡ o) [
   | None ↦ refl
   | Some g ↦ refl
@@ -47,14 +47,15 @@ take_twice None false b h = refl
 take_twice (Some g) a b h = refl
 
 pub taken_more : (holds after : Key → Option Hold) (k : Key) (ks : List Key) (h : Hold) →
-    ((q : Key) → after q ≡ taken holds (k ∷ []) h q) → (q : Key) → taken after ks h q ≡ taken holds (k ∷ ks) h q
+    ((q : Key) → after q ≡ hold_after_take holds (k ∷ []) h q) → (q : Key) →
+    hold_after_take after ks h q ≡ hold_after_take holds (k ∷ ks) h q
 taken_more holds after k ks h is q =
     ap (λ o. option_or o (cond (has_key q ks) (Some h) None)) (is q) ∙
     take_twice (holds q) (eq_by_cmp key_cmp q k) (has_key q ks) h
 
 -- a key that is held stays with its holder
 pub taken_held : (holds : Key → Option Hold) (k : Key) (h : Hold) → is_some (holds k) ≡ true → (q : Key) →
-    holds q ≡ taken holds (k ∷ []) h q
+    holds q ≡ hold_after_take holds (k ∷ []) h q
 taken_held holds k h some q =
     elim (eq_by_cmp key_cmp q k) as (λ b. eq_by_cmp key_cmp q k ≡ b →
     holds q ≡ option_or (holds q) (cond (b || false) (Some h) None)) [
@@ -71,7 +72,7 @@ none_is (Some x) e = absurd (cc)
 
 -- a free key is taken
 pub taken_free : (holds : Key → Option Hold) (k : Key) (h : Hold) → is_some (holds k) ≡ false → (q : Key) →
-    cond (is_eq (key_cmp k q)) (Some h) (holds q) ≡ taken holds (k ∷ []) h q
+    cond (is_eq (key_cmp k q)) (Some h) (holds q) ≡ hold_after_take holds (k ∷ []) h q
 taken_free holds k h free q =
     ap (λ b. cond b (Some h) (holds q)) (key_sym k q) ∙
     elim (eq_by_cmp key_cmp q k) as (λ b. eq_by_cmp key_cmp q k ≡ b →
@@ -82,7 +83,7 @@ taken_free holds k h free q =
 
 -- ---- freeing what one change took
 
-pub freed_at_none : (holds : Key → Option Hold) (x : Xid) (n : ℕ) (q : Key) → freed_at holds [] x n q ≡ holds q
+pub freed_at_none : (holds : Key → Option Hold) (x : Xid) (n : ℕ) (q : Key) → hold_after_undo holds [] x n q ≡ holds q
 freed_at_none holds x n q = refl
 
 free_twice : (x : Xid) (n : ℕ) (o : Option Hold) (a b c : Bool) → is_hold x n o ≡ c →
@@ -96,13 +97,14 @@ free_twice x n o true b false e = ap (λ d. cond (b && d) None o) e ∙ elim b a
 free_twice x n o false b c e = ap (λ d. cond (b && d) None o) e
 
 pub freed_at_more : (holds after : Key → Option Hold) (k : Key) (ks : List Key) (x : Xid) (n : ℕ) →
-    ((q : Key) → after q ≡ freed_at holds (k ∷ []) x n q) → (q : Key) → freed_at after ks x n q ≡ freed_at holds (k ∷ ks) x n q
+    ((q : Key) → after q ≡ hold_after_undo holds (k ∷ []) x n q) → (q : Key) →
+    hold_after_undo after ks x n q ≡ hold_after_undo holds (k ∷ ks) x n q
 freed_at_more holds after k ks x n is q =
     ap (λ o. cond (has_key q ks && is_hold x n o) None o) (is q) ∙
     free_twice x n (holds q) (eq_by_cmp key_cmp q k) (has_key q ks) (is_hold x n (holds q)) refl
 
 pub freed_at_other : (holds : Key → Option Hold) (k : Key) (x : Xid) (n : ℕ) → is_hold x n (holds k) ≡ false → (q : Key) →
-    holds q ≡ freed_at holds (k ∷ []) x n q
+    holds q ≡ hold_after_undo holds (k ∷ []) x n q
 freed_at_other holds k x n other q =
     elim (eq_by_cmp key_cmp q k) as (λ b. eq_by_cmp key_cmp q k ≡ b →
     holds q ≡ cond ((b || false) && is_hold x n (holds q)) None (holds q)) [
@@ -111,7 +113,7 @@ freed_at_other holds k x n other q =
     ] refl
 
 pub freed_at_own : (holds : Key → Option Hold) (k : Key) (x : Xid) (n : ℕ) → is_hold x n (holds k) ≡ true → (q : Key) →
-    cond (is_eq (key_cmp k q)) None (holds q) ≡ freed_at holds (k ∷ []) x n q
+    cond (is_eq (key_cmp k q)) None (holds q) ≡ hold_after_undo holds (k ∷ []) x n q
 freed_at_own holds k x n own q =
     ap (λ b. cond b None (holds q)) (key_sym k q) ∙
     elim (eq_by_cmp key_cmp q k) as (λ b. eq_by_cmp key_cmp q k ≡ b →
@@ -128,16 +130,18 @@ free_both o true false = refl
 free_both o false b = refl
 
 pub freed_one : (holds : Key → Option Hold) (k : Key) (q : Key) →
-    cond (is_eq (key_cmp k q)) None (holds q) ≡ freed holds (k ∷ []) q
+    cond (is_eq (key_cmp k q)) None (holds q) ≡ hold_after_free holds (k ∷ []) q
 freed_one holds k q = ap (λ b. cond b None (holds q)) (key_sym k q ∙ sym (or_no (eq_by_cmp key_cmp q k)))
 
-pub freed_more : (holds after : Key → Option Hold) (k : Key) (ks : List Key) → ((q : Key) → after q ≡ freed holds (k ∷ []) q) →
-    (q : Key) → freed after ks q ≡ freed holds (k ∷ ks) q
+pub freed_more : (holds after : Key → Option Hold) (k : Key) (ks : List Key) →
+    ((q : Key) → after q ≡ hold_after_free holds (k ∷ []) q) → (q : Key) →
+    hold_after_free after ks q ≡ hold_after_free holds (k ∷ ks) q
 freed_more holds after k ks is q =
     ap (λ o. cond (has_key q ks) None o) (is q ∙ ap (λ b. cond b None (holds q)) (or_no (eq_by_cmp key_cmp q k))) ∙
     free_both (holds q) (eq_by_cmp key_cmp q k) (has_key q ks)
 
 pub freed_each_more : (holds after : Key → Option Hold) (ks : List Key) (kss : List (List Key)) →
-    ((q : Key) → after q ≡ freed holds ks q) → (q : Key) → freed_each after kss q ≡ freed_each holds (ks ∷ kss) q
+    ((q : Key) → after q ≡ hold_after_free holds ks q) → (q : Key) →
+    hold_after_end after kss q ≡ hold_after_end holds (ks ∷ kss) q
 freed_each_more holds after ks kss is q =
     ap (λ o. cond (list_any (has_key q) kss) None o) (is q) ∙ free_both (holds q) (has_key q ks) (list_any (has_key q) kss)

@@ -11,8 +11,8 @@ use Rattle.redo_law.specs.Held.{Apart}
 use Rattle.redo_law.proofs.Ids.{xid_is, xid_sym}
 
 -- a change of a transaction that leaves its id
-abbrev pub Keeps : (OpenTxn → OpenTxn) → Type 0
-Keeps f = (t : OpenTxn) → (f t).xid ≡ t.xid
+abbrev pub KeepsId : (OpenTxn → OpenTxn) → Type 0
+KeepsId f = (t : OpenTxn) → (f t).xid ≡ t.xid
 
 some_is : {A : Type 0} (x y : A) → Some x ≡ Some y → x ≡ y
 some_is x y e = cc
@@ -64,7 +64,7 @@ open_after_push y (u ∷ us) t =
     ]
 
 -- at the transaction that is changed
-pub open_changed : (f : OpenTxn → OpenTxn) → Keeps f → (x : Xid) (ts : List OpenTxn) →
+pub open_changed : (f : OpenTxn → OpenTxn) → KeepsId f → (x : Xid) (ts : List OpenTxn) →
     open_of x (with_open f x ts) ≡ option_map f (open_of x ts)
 open_changed f keeps x [] = refl
 open_changed f keeps x (t ∷ ts) =
@@ -81,7 +81,7 @@ apart_ids : (i x y : Xid) → same_xid x y ≡ false → same_xid i x ≡ true �
 apart_ids i x y apart is = ap (λ j. same_xid j y) (xid_is i x is) ∙ apart
 
 -- at another
-pub open_beside_changed : (f : OpenTxn → OpenTxn) → Keeps f → (x y : Xid) → same_xid x y ≡ false → (ts : List OpenTxn) →
+pub open_beside_changed : (f : OpenTxn → OpenTxn) → KeepsId f → (x y : Xid) → same_xid x y ≡ false → (ts : List OpenTxn) →
     open_of y (with_open f x ts) ≡ open_of y ts
 open_beside_changed f keeps x y apart [] = refl
 open_beside_changed f keeps x y apart (t ∷ ts) =
@@ -131,7 +131,7 @@ none_map : {A B : Type 0} (f : A → B) (o : Option A) → o ≡ None → option
 none_map f o e = ap (option_map f) e
 
 -- an id that names none names none after a change
-pub none_changed : (f : OpenTxn → OpenTxn) → Keeps f → (x y : Xid) (ts : List OpenTxn) → open_of y ts ≡ None →
+pub none_changed : (f : OpenTxn → OpenTxn) → KeepsId f → (x y : Xid) (ts : List OpenTxn) → open_of y ts ≡ None →
     open_of y (with_open f x ts) ≡ None
 none_changed f keeps x y ts e =
     elim (same_xid x y) as (λ b. same_xid x y ≡ b → open_of y (with_open f x ts) ≡ None) [
@@ -147,11 +147,11 @@ none_closed x y ts e =
       | false ↦ λ is. open_beside_closed x y is ts ∙ e
     ] refl
 
-id_kept : (f : OpenTxn → OpenTxn) → Keeps f → (b : Bool) (t : OpenTxn) → (cond b (f t) t).xid ≡ t.xid
+id_kept : (f : OpenTxn → OpenTxn) → KeepsId f → (b : Bool) (t : OpenTxn) → (cond b (f t) t).xid ≡ t.xid
 id_kept f keeps true t = keeps t
 id_kept f keeps false t = refl
 
-pub apart_changed : (f : OpenTxn → OpenTxn) → Keeps f → (x : Xid) (ts : List OpenTxn) → Apart ts → Apart (with_open f x ts)
+pub apart_changed : (f : OpenTxn → OpenTxn) → KeepsId f → (x : Xid) (ts : List OpenTxn) → Apart ts → Apart (with_open f x ts)
 apart_changed f keeps x [] a = tt
 apart_changed f keeps x (t ∷ ts) a = (
   ap (λ i. open_of i (with_open f x ts)) (id_kept f keeps (same_xid t.xid x) t) ∙ none_changed f keeps x t.xid ts a.0,

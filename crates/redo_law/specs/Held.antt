@@ -3,26 +3,15 @@
 use Rattle.std.specs.Prelude.{◌≡◌, ℕ, ◌+◌, List, [], ◌∷◌, Bool, false, cond, ◌&&◌, ◌==◌, Option, Some, None, filter, not, ⊤}
 use Rattle.std.specs.List.{list_any}
 use Rattle.std.specs.Option.{option_or}
-use Rattle.std.specs.declared.cmp.Ordering.{Ordering}
 use Rattle.std.specs.Ordering.{eq_by_cmp}
 use Rattle.rl_value.specs.declared.key.Key.{Key}
-use Rattle.rl_value.specs.declared.pos.Pos.{Pos}
 use Rattle.rl_value.specs.declared.xid.Xid.{Xid}
 use Rattle.rl_value.specs.Order.{key_cmp}
-use Rattle.rl_value.specs.contracts.pos.PosOrd.TheImpl as pos_order
-use Rattle.rl_value.specs.contracts.xid.XidOrd.TheImpl as xid_order
 use Rattle.redo_spec.specs.History.{same_xid}
 use Rattle.redo_spec.specs.Locks.{held_keys}
 use Rattle.redo_spec.specs.Standing.{OpenTxn}
 use Rattle.redo_law.specs.declared.hold.Hold.{Hold}
 use Rattle.redo_law.specs.Calls.{open_of}
-
--- the orders of positions and of transaction ids
-abbrev pub pos_cmp : Pos → Pos → Ordering
-pos_cmp = (pos_order.ghosts).cmp
-
-abbrev pub xid_cmp : Xid → Xid → Ordering
-xid_cmp = (xid_order.ghosts).cmp
 
 -- the key is in the list
 abbrev pub has_key : Key → List Key → Bool
@@ -59,13 +48,13 @@ if_blocked x k None rest = rest
 if_blocked x k (Some h) rest = cond (same_xid h.holder x) rest ((k, h.holder) ∷ rest)
 
 -- those of the keys that another than this transaction holds, each with its holder
-abbrev pub blocked : (Key → Option Hold) → Xid → List Key → List (Key × Xid)
-blocked holds x [] = []
-blocked holds x (k ∷ ks) = if_blocked x k (holds k) (blocked holds x ks)
+abbrev pub blocked_keys : (Key → Option Hold) → Xid → List Key → List (Key × Xid)
+blocked_keys holds x [] = []
+blocked_keys holds x (k ∷ ks) = if_blocked x k (holds k) (blocked_keys holds x ks)
 
 -- the held keys that a change of this transaction with these keys touches, and that another transaction holds
-abbrev pub kept_out : Xid → List Key → List OpenTxn → List (Key × Xid)
-kept_out x keys ts = filter (λ k. not (same_xid k.1 x) && list_any (eq_by_cmp key_cmp k.0) keys) (held_keys ts)
+abbrev pub contended_keys : Xid → List Key → List OpenTxn → List (Key × Xid)
+contended_keys x keys ts = filter (λ k. not (same_xid k.1 x) && list_any (eq_by_cmp key_cmp k.0) keys) (held_keys ts)
 
 -- no two of the transactions have one id
 abbrev pub Apart : List OpenTxn → Type 0
@@ -75,17 +64,17 @@ Apart (t ∷ ts) = (open_of t.xid ts ≡ None) × Apart ts
 -- ---- what becomes of the locks, key by key
 
 -- these keys are taken by this hold, as far as they are free
-abbrev pub taken : (Key → Option Hold) → List Key → Hold → Key → Option Hold
-taken holds ks h q = option_or (holds q) (cond (has_key q ks) (Some h) None)
+abbrev pub hold_after_take : (Key → Option Hold) → List Key → Hold → Key → Option Hold
+hold_after_take holds ks h q = option_or (holds q) (cond (has_key q ks) (Some h) None)
 
 -- these keys are free that this transaction took with this change
-abbrev pub freed_at : (Key → Option Hold) → List Key → Xid → ℕ → Key → Option Hold
-freed_at holds ks x n q = cond (has_key q ks && is_hold x n (holds q)) None (holds q)
+abbrev pub hold_after_undo : (Key → Option Hold) → List Key → Xid → ℕ → Key → Option Hold
+hold_after_undo holds ks x n q = cond (has_key q ks && is_hold x n (holds q)) None (holds q)
 
 -- these keys are free
-abbrev pub freed : (Key → Option Hold) → List Key → Key → Option Hold
-freed holds ks q = cond (has_key q ks) None (holds q)
+abbrev pub hold_after_free : (Key → Option Hold) → List Key → Key → Option Hold
+hold_after_free holds ks q = cond (has_key q ks) None (holds q)
 
 -- the keys of these changes are free
-abbrev pub freed_each : (Key → Option Hold) → List (List Key) → Key → Option Hold
-freed_each holds kss q = cond (list_any (has_key q) kss) None (holds q)
+abbrev pub hold_after_end : (Key → Option Hold) → List (List Key) → Key → Option Hold
+hold_after_end holds kss q = cond (list_any (has_key q) kss) None (holds q)

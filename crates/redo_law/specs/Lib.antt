@@ -1,7 +1,8 @@
 pub mod Calls
 pub mod Touched
 pub mod Held
-pub mod OpenTable
+pub mod OpenTransactions
+pub mod Consistency
 pub mod Shown
 pub mod Given
-pub mod Seen
+pub mod States

@@ -1,4 +1,4 @@
-//! The parts of a table of open transactions, copied in the order of their keys.
+//! The parts of the open transactions, copied in the order of their keys.
 ghost use Rattle.std.specs.Prelude.{◌≡◌, IfOk, OnOk};
 ghost use Rattle.std.specs.BTreeMap.{insert_entry};
 

@@ -8,9 +8,9 @@ ghost use Rattle.redo_spec.specs.Law.{record_fault, dictionary_left};
 ghost use Rattle.redo_law.specs.Calls.{standing_of, Judges, Leaves, OnWant, wants_memory, start_rec};
 
 use crate::fault::AdmitFault;
+use crate::open_transactions::OpenTransactions;
 use crate::start::LawStart;
 use crate::state::State;
-use crate::table::Table;
 use redo_dict::Dict;
 use redo_spec::Header;
 use redo_vec::RedoRec;
@@ -29,11 +29,11 @@ impl Model for Law {
 
     ghost Value = { Standing };
 
-    ghost use Rattle.redo_law.specs.Seen.{seen, IsReady};
+    ghost use Rattle.redo_law.specs.States.{standing_in, IsBetweenRecords};
 
-    ghost view = { λ l. seen l.state };
+    ghost view = { λ l. standing_in l.state };
 
-    ghost invariant = { λ l. IsReady l.state };
+    ghost invariant = { λ l. IsBetweenRecords l.state };
 }
 
 impl Law {
@@ -42,7 +42,7 @@ impl Law {
         ensures begun { IfOk result (λ law. law ≡ standing_of start) }
         ensures back { IfErr result (λ refused. refused.1 ≡ start) }
     {
-        let table = Table::new(alloc);
+        let transactions = OpenTransactions::new(alloc);
         Ok(Law {
             state: State {
                 alloc,
@@ -53,7 +53,7 @@ impl Law {
                 scn: start.scn,
                 commit_scn: start.commit_scn,
                 dict: start.dict,
-                table,
+                transactions,
             },
         })
     }
@@ -78,8 +78,8 @@ impl Law {
         ensures left { Leaves (dictionary_left self.old (head.now, rec.now)) self.new.dictionary result }
     {
         if let Err(fault) = self.state.admit(head, rec) {
-            // Nothing is said of the transactions any more, so the parts fit each other again without them.
-            self.state.table.clear();
+            // Nothing is said of the transactions any more, and without them none began later than this record.
+            self.state.transactions.clear();
             return Err(fault);
         }
         Ok(())
@@ -89,7 +89,7 @@ impl Law {
     pub fn start_of(&self, xid: Xid) -> Option<u64>
         ensures value { result ≡ start_rec xid self.now.active }
     {
-        self.state.table.start_of(xid)
+        self.state.transactions.start_of(xid)
     }
 
     /// The dictionary that the records so far leave.

@@ -7,10 +7,10 @@ mod fault;
 mod hold;
 mod law;
 mod locks;
+mod open_transactions;
 mod start;
 mod state;
 mod survivors;
-mod table;
 #[cfg(test)]
 mod tests;
 mod touching;

@@ -8,7 +8,7 @@ ghost use Rattle.std.specs.Option.{option_map, option_copied};
 ghost use Rattle.rl_value.specs.Order.{key_cmp};
 ghost use Rattle.redo_spec.specs.History.{same_xid};
 ghost use Rattle.redo_spec.specs.Locks.{least, lesser};
-ghost use Rattle.redo_law.specs.Held.{blocked, taken, freed, freed_at, freed_each, is_hold};
+ghost use Rattle.redo_law.specs.Held.{blocked_keys, hold_after_take, hold_after_free, hold_after_undo, hold_after_end, is_hold};
 ghost use Rattle.redo_law.specs.Shown.{shown_pair};
 
 use crate::hold::Hold;
@@ -24,7 +24,8 @@ pub fn is_same(x: Xid, y: Xid) -> bool
 }
 
 fn take_key(locks: &mut BTreeMap<Key, Hold>, key: &Key, hold: Hold) -> Result<(), NoMemory>
-    ensures { OnOk result ((q : Key) → tree.get key_cmp locks.new q ≡ taken (tree.get key_cmp locks.old) (key.now ∷ []) hold q) }
+    ensures { OnOk result ((q : Key) → tree.get key_cmp locks.new q ≡
+        hold_after_take (tree.get key_cmp locks.old) (key.now ∷ []) hold q) }
 {
     if locks.contains_key(key) {
         return Ok(());
@@ -38,7 +39,8 @@ fn take_key(locks: &mut BTreeMap<Key, Hold>, key: &Key, hold: Hold) -> Result<()
 
 /// Takes the keys that are free.
 pub fn take_keys(locks: &mut BTreeMap<Key, Hold>, keys: &[Key], hold: Hold) -> Result<(), NoMemory>
-    ensures { OnOk result ((q : Key) → tree.get key_cmp locks.new q ≡ taken (tree.get key_cmp locks.old) keys.now hold q) }
+    ensures { OnOk result ((q : Key) → tree.get key_cmp locks.new q ≡
+        hold_after_take (tree.get key_cmp locks.old) keys.now hold q) }
 {
     let mut rest = keys;
     while let [first, others @ ..] = rest {
@@ -59,7 +61,7 @@ fn is_from(hold: Option<&Hold>, from: Hold) -> bool
 
 fn free_key_of(locks: &mut BTreeMap<Key, Hold>, key: &Key, from: Hold)
     ensures { (q : Key) → tree.get key_cmp locks.new q ≡
-        freed_at (tree.get key_cmp locks.old) (key.now ∷ []) from.holder from.change q }
+        hold_after_undo (tree.get key_cmp locks.old) (key.now ∷ []) from.holder from.change q }
 {
     if is_from(locks.get(key), from) {
         let _ = locks.remove(key);
@@ -69,7 +71,7 @@ fn free_key_of(locks: &mut BTreeMap<Key, Hold>, key: &Key, from: Hold)
 /// Frees the keys that were taken so.
 pub fn free_keys_of(locks: &mut BTreeMap<Key, Hold>, keys: &[Key], from: Hold)
     ensures { (q : Key) → tree.get key_cmp locks.new q ≡
-        freed_at (tree.get key_cmp locks.old) keys.now from.holder from.change q }
+        hold_after_undo (tree.get key_cmp locks.old) keys.now from.holder from.change q }
 {
     let mut rest = keys;
     while let [first, others @ ..] = rest {
@@ -79,13 +81,13 @@ pub fn free_keys_of(locks: &mut BTreeMap<Key, Hold>, keys: &[Key], from: Hold)
 }
 
 fn free_key(locks: &mut BTreeMap<Key, Hold>, key: &Key)
-    ensures { (q : Key) → tree.get key_cmp locks.new q ≡ freed (tree.get key_cmp locks.old) (key.now ∷ []) q }
+    ensures { (q : Key) → tree.get key_cmp locks.new q ≡ hold_after_free (tree.get key_cmp locks.old) (key.now ∷ []) q }
 {
     let _ = locks.remove(key);
 }
 
 fn free_keys(locks: &mut BTreeMap<Key, Hold>, keys: &[Key])
-    ensures { (q : Key) → tree.get key_cmp locks.new q ≡ freed (tree.get key_cmp locks.old) keys.now q }
+    ensures { (q : Key) → tree.get key_cmp locks.new q ≡ hold_after_free (tree.get key_cmp locks.old) keys.now q }
 {
     let mut rest = keys;
     while let [first, others @ ..] = rest {
@@ -96,7 +98,7 @@ fn free_keys(locks: &mut BTreeMap<Key, Hold>, keys: &[Key])
 
 /// Frees the keys of all these changes.
 pub fn free_changes(locks: &mut BTreeMap<Key, Hold>, changes: &[TouchedKeys])
-    ensures { (q : Key) → tree.get key_cmp locks.new q ≡ freed_each (tree.get key_cmp locks.old) changes.now q }
+    ensures { (q : Key) → tree.get key_cmp locks.new q ≡ hold_after_end (tree.get key_cmp locks.old) changes.now q }
 {
     let mut rest = changes;
     while let [first, others @ ..] = rest {
@@ -126,7 +128,7 @@ pub fn least_blocked<'k>(
     xid: Xid,
     keys: &'k [Key],
 ) -> Option<(&'k Key, Xid)>
-    ensures { option_map shown_pair result ≡ least (blocked (tree.get key_cmp locks.now) xid keys.now) }
+    ensures { option_map shown_pair result ≡ least (blocked_keys (tree.get key_cmp locks.now) xid keys.now) }
 {
     let [first, others @ ..] = keys else {
         return None;

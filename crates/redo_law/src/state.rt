@@ -1,26 +1,23 @@
 //! What the records so far leave, and how one more vector is tested and taken.
 //!
-//! The tests of a vector stand in the order of their causes. A refused vector leaves the dictionary as it was; where memory
-//! is refused, the open transactions are no longer of use.
-ghost use Rattle.std.specs.Prelude.{◌≡◌, ◌≢◌, IsTrue, Err, ◌+◌, ◌<◌, ◌≤◌, ◌^◌, ◌&&◌, ◌||◌, not, ℕ, nat_le, nat_lt, ◌==◌, OnOk, IfOk, IfErr, IfSome, length, [], ◌∷◌, Option, Some, None};
+//! The tests of a vector stand in the order of their causes. A refused vector leaves the dictionary as it was. Of the open
+//! transactions nothing is said then.
+ghost use Rattle.std.specs.Prelude.{◌≡◌, IsTrue, Err, ◌+◌, ◌<◌, ◌≤◌, ◌^◌, ◌&&◌, ◌||◌, not, ℕ, nat_le, ◌==◌, OnOk, IfOk, length, Option, Some, None};
 ghost use Rattle.std.specs.List.{list_any};
-ghost use Rattle.redo_vec.specs.declared.vector.Vector.TheVariants.{Start, Change as OfChange, Undo as OfUndo, Commit as OfCommit, Rollback as OfRollback, Table as OfTable, DictEnd as OfDictEnd};
-ghost use Rattle.redo_spec.specs.ChangeForm.{change_fault};
-ghost use Rattle.redo_spec.specs.Dictionary.{table_fault, is_of_dictionary};
-ghost use Rattle.std.specs.Option.{option_or};
+ghost use Rattle.redo_vec.specs.declared.vector.Vector.TheVariants.{Start, Change as OfChange, Undo as OfUndo, Commit as OfCommit, Rollback as OfRollback, Table as OfTable};
+ghost use Rattle.redo_spec.specs.Dictionary.{is_of_dictionary};
 ghost use Rattle.redo_spec.specs.Locks.{least};
-ghost use Rattle.redo_law.specs.Held.{kept_out};
-ghost use Rattle.redo_spec.specs.Standing.{is_open, standing_after, standing_after_all, survivor_count, record_after, with_open, open_txn_after_change};
-ghost use Rattle.redo_spec.specs.Law.{open_limit, count_fault, record_fault, dictionary_left, breaks_chain, ends_txn, whole_fault, dictionary_fault, own_fault, vector_fault, vectors_fault, left_by_vectors, is_passed_over, nothing_survives, made_fault, unless};
+ghost use Rattle.redo_law.specs.Held.{contended_keys};
+ghost use Rattle.redo_spec.specs.Standing.{is_open, standing_after_all, survivor_count, record_after};
+ghost use Rattle.redo_spec.specs.Law.{open_limit, record_fault, dictionary_left, breaks_chain, ends_txn, whole_fault, own_fault, vector_fault, vectors_fault, left_by_vectors, made_fault};
 ghost use Rattle.redo_dict.specs.Refusals.{IsTableRefusal, change_reason};
-ghost use Rattle.redo_law.specs.Calls.{Judges, Leaves, Refuses, OnWant, takes_memory, may_want, may_want_in, wants_memory};
-ghost use Rattle.redo_law.specs.OpenTable.{IsTable, BeganBefore};
-ghost use Rattle.redo_law.specs.Seen.{seen, with_active, lock_told, IsReady};
+ghost use Rattle.redo_law.specs.Calls.{Judges, Leaves, Refuses, OnWant, may_want_in, wants_memory};
+ghost use Rattle.redo_law.specs.OpenTransactions.{BeganBefore};
+ghost use Rattle.redo_law.specs.States.{standing_in, fault_of_lock, IsBetweenRecords, TakesVector};
 
 use crate::conflicts::conflicts;
 use crate::fault::AdmitFault;
-use crate::locks::least_blocked;
-use crate::table::Table;
+use crate::open_transactions::OpenTransactions;
 use redo_dict::{ChangeFault, Dict, DictFault};
 use redo_spec::Header;
 use redo_vec::{Change, RedoRec, TableRow, Vector};
@@ -41,7 +38,7 @@ pub struct State {
     pub scn: Scn,
     pub commit_scn: Scn,
     pub dict: Dict,
-    pub table: Table,
+    pub transactions: OpenTransactions,
 }
 
 fn breaks_chain_after(last: Option<Header>, head: &Header) -> bool
@@ -111,7 +108,7 @@ fn table_refused(fault: DictFault) -> AdmitFault
 impl State {
     /// The first reason for which a record as a whole may not follow.
     pub fn whole_refusal(&self, head: &Header, rec: &RedoRec) -> Option<LawFault>
-        ensures { result ≡ whole_fault (seen self.now) (head.now, rec.now) }
+        ensures { result ≡ whole_fault (standing_in self.now) (head.now, rec.now) }
     {
         let vectors = rec.vectors.items();
         if breaks_chain_after(self.head, head) {
@@ -140,10 +137,9 @@ impl State {
     }
 
     fn is_open(&self, xid: Xid) -> bool
-        requires { IsTable self.now.table }
-        ensures { result ≡ is_open (seen self.now) xid }
+        ensures { result ≡ is_open (standing_in self.now) xid }
     {
-        self.table.is_open(xid)
+        self.transactions.is_open(xid)
     }
 
     // Its START may stand before the records of this law.
@@ -154,19 +150,14 @@ impl State {
     }
 
     fn start(&mut self, vec: u8, xid: Xid) -> Result<(), AdmitFault>
-        requires table { IsTable self.old.table }
-        requires before { BeganBefore (record { rec = self.old.rec; vec = vec }) (seen self.old).active }
-        ensures table { OnOk result (IsTable self.new.table) }
-        ensures done { OnOk result (seen self.new ≡ standing_after vec (Start xid) (seen self.old)) }
-        ensures exact { Judges (own_fault (seen self.old) (Start xid)) result }
-        ensures memory { OnWant result (IsTrue (may_want (own_fault (seen self.old) (Start xid)))) }
-        ensures left { Leaves self.old.dict self.new.dict result }
+        requires before { BeganBefore (record { rec = self.old.rec; vec = vec }) (standing_in self.old).active }
+        ensures { TakesVector (own_fault (standing_in self.old) (Start xid)) vec (Start xid) self.old self.new result }
     {
         if self.is_open(xid) {
             return Err(AdmitFault::Law(LawFault::OpenTwice));
         }
         let at = Pos { rec: self.rec, vec };
-        if self.table.start(self.alloc, at, xid).is_err() {
+        if self.transactions.start(self.alloc, at, xid).is_err() {
             return Err(AdmitFault::Memory);
         }
         Ok(())
@@ -174,10 +165,9 @@ impl State {
 
     // Another open transaction holds one of these keys.
     fn lock_refusal(&self, xid: Xid, keys: &[Key]) -> Result<(), AdmitFault>
-        requires { IsTable self.now.table }
-        ensures { Judges (lock_told (least (kept_out xid keys.now (seen self.now).active))) result }
+        ensures { Judges (fault_of_lock (least (contended_keys xid keys.now (standing_in self.now).active))) result }
     {
-        let Some((key, holder)) = self.table.lock_on(xid, keys) else {
+        let Some((key, holder)) = self.transactions.lock_on(xid, keys) else {
             return Ok(());
         };
         let Ok(key) = key.copy() else {
@@ -187,40 +177,16 @@ impl State {
     }
 
     fn is_full(&self) -> bool
-        requires { IsTable self.now.table }
-        ensures { result ≡ nat_le open_limit (survivor_count (seen self.now)) }
+        ensures { result ≡ nat_le open_limit (survivor_count (standing_in self.now)) }
     {
-        self.table.count() >= MAX_CHANGES
-    }
-
-    // Takes a change that the dictionary accepts and that touches these keys.
-    fn make(&mut self, xid: Xid, keys: Vec<Key>) -> Result<(), AdmitFault>
-        requires { IsTable self.old.table }
-        ensures table { OnOk result (IsTable self.new.table) }
-        ensures done { OnOk result (seen self.new ≡ with_active
-            (with_open (open_txn_after_change keys.items) xid (seen self.old).active) (seen self.old)) }
-        ensures exact { Judges (option_or (lock_told (least (kept_out xid keys.items (seen self.old).active)))
-            (count_fault (survivor_count (seen self.old)))) result }
-        ensures left { Leaves self.old.dict self.new.dict result }
-    {
-        self.lock_refusal(xid, keys.as_slice())?;
-        if self.is_full() {
-            return Err(AdmitFault::Law(LawFault::OpenLimit));
-        }
-        if self.table.touch(xid, keys).is_err() {
-            return Err(AdmitFault::Memory);
-        }
-        Ok(())
+        self.transactions.count() >= MAX_CHANGES
     }
 
     // A change of an open transaction.
     fn make_change(&mut self, change: &Change) -> Result<(), AdmitFault>
-        requires { IsTable self.old.table }
-        ensures table { OnOk result (IsTable self.new.table) }
-        ensures done { (vec : ℕ) → OnOk result (seen self.new ≡ standing_after vec (OfChange change.now) (seen self.old)) }
-        ensures exact { Judges (made_fault (seen self.old) change.now) result }
-        ensures memory { OnWant result (IsTrue (may_want (made_fault (seen self.old) change.now))) }
-        ensures left { Leaves self.old.dict self.new.dict result }
+        requires open { IsTrue (is_open (standing_in self.old) change.now.xid) }
+        ensures { (vec : ℕ) → TakesVector (made_fault (standing_in self.old) change.now) vec (OfChange change.now) self.old
+            self.new result }
     {
         if let Err(fault) = self.dict.check_change(change) {
             return Err(AdmitFault::Law(law_fault_of(fault)));
@@ -228,17 +194,23 @@ impl State {
         let Ok(keys) = conflicts(self.alloc, &self.dict, change) else {
             return Err(AdmitFault::Memory);
         };
-        self.make(change.xid, keys)
+        self.lock_refusal(change.xid, keys.as_slice())?;
+        if self.is_full() {
+            return Err(AdmitFault::Law(LawFault::OpenLimit));
+        }
+        if self
+            .transactions
+            .touch(self.alloc, change.xid, keys)
+            .is_err()
+        {
+            return Err(AdmitFault::Memory);
+        }
+        Ok(())
     }
 
     fn change(&mut self, vec: u8, change: &Change) -> Result<(), AdmitFault>
-        requires { IsTable self.old.table }
-        ensures table { OnOk result (IsTable self.new.table) }
-        ensures done { OnOk result (seen self.new ≡ standing_after vec (OfChange change.now) (seen self.old)) }
-        ensures exact { Judges (own_fault (seen self.old) (OfChange change.now)) result }
-        ensures memory { OnWant result (IsTrue (takes_memory (seen self.old) (OfChange change.now) &&
-            may_want (own_fault (seen self.old) (OfChange change.now)))) }
-        ensures left { Leaves self.old.dict self.new.dict result }
+        ensures { TakesVector (own_fault (standing_in self.old) (OfChange change.now)) vec (OfChange change.now) self.old
+            self.new result }
     {
         if self.is_open(change.xid) {
             return self.make_change(change);
@@ -250,30 +222,22 @@ impl State {
     }
 
     fn undo(&mut self, xid: Xid) -> Result<(), AdmitFault>
-        requires { IsTable self.old.table }
-        ensures table { OnOk result (IsTable self.new.table) }
-        ensures done { (vec : ℕ) → OnOk result (seen self.new ≡ standing_after vec (OfUndo xid) (seen self.old)) }
-        ensures exact { Judges (own_fault (seen self.old) (OfUndo xid)) result }
-        ensures memory { result ≢ Err AdmitFault.Memory }
-        ensures left { Leaves self.old.dict self.new.dict result }
+        ensures { (vec : ℕ) → TakesVector (own_fault (standing_in self.old) (OfUndo xid)) vec (OfUndo xid) self.old
+            self.new result }
     {
         if !self.is_open(xid) && !self.may_have_begun_before() {
             return Err(AdmitFault::Law(LawFault::NotOpen));
         }
-        if self.table.nothing_survives(xid) {
+        if self.transactions.nothing_survives(xid) {
             return Err(AdmitFault::Law(LawFault::Nothing));
         }
-        self.table.undo(xid);
+        self.transactions.undo(xid);
         Ok(())
     }
 
     fn commit(&mut self, xid: Xid) -> Result<(), AdmitFault>
-        requires { IsTable self.old.table }
-        ensures table { OnOk result (IsTable self.new.table) }
-        ensures done { (vec : ℕ) → OnOk result (seen self.new ≡ standing_after vec (OfCommit xid) (seen self.old)) }
-        ensures exact { Judges (own_fault (seen self.old) (OfCommit xid)) result }
-        ensures memory { result ≢ Err AdmitFault.Memory }
-        ensures left { Leaves self.old.dict self.new.dict result }
+        ensures { (vec : ℕ) → TakesVector (own_fault (standing_in self.old) (OfCommit xid)) vec (OfCommit xid) self.old
+            self.new result }
     {
         if !self.is_open(xid) && !self.may_have_begun_before() {
             return Err(AdmitFault::Law(LawFault::NotOpen));
@@ -282,32 +246,24 @@ impl State {
             return Err(AdmitFault::Law(LawFault::Scn));
         }
         self.commit_scn = self.scn;
-        self.table.close(xid);
+        self.transactions.close(xid);
         Ok(())
     }
 
     fn rollback(&mut self, xid: Xid) -> Result<(), AdmitFault>
-        requires { IsTable self.old.table }
-        ensures table { OnOk result (IsTable self.new.table) }
-        ensures done { (vec : ℕ) → OnOk result (seen self.new ≡ standing_after vec (OfRollback xid) (seen self.old)) }
-        ensures exact { Judges (own_fault (seen self.old) (OfRollback xid)) result }
-        ensures memory { result ≢ Err AdmitFault.Memory }
-        ensures left { Leaves self.old.dict self.new.dict result }
+        ensures { (vec : ℕ) → TakesVector (own_fault (standing_in self.old) (OfRollback xid)) vec (OfRollback xid) self.old
+            self.new result }
     {
         if !self.is_open(xid) && !self.may_have_begun_before() {
             return Err(AdmitFault::Law(LawFault::NotOpen));
         }
-        self.table.close(xid);
+        self.transactions.close(xid);
         Ok(())
     }
 
     fn add_table(&mut self, row: &TableRow) -> Result<(), AdmitFault>
-        requires { IsTable self.old.table }
-        ensures table { OnOk result (IsTable self.new.table) }
-        ensures done { (vec : ℕ) → OnOk result (seen self.new ≡ standing_after vec (OfTable row.now) (seen self.old)) }
-        ensures exact { Judges (own_fault (seen self.old) (OfTable row.now)) result }
-        ensures memory { OnWant result (IsTrue (may_want (own_fault (seen self.old) (OfTable row.now)))) }
-        ensures left { Leaves self.old.dict self.new.dict result }
+        ensures { (vec : ℕ) → TakesVector (own_fault (standing_in self.old) (OfTable row.now)) vec (OfTable row.now) self.old
+            self.new result }
     {
         let Ok(row) = row.copy() else {
             return Err(AdmitFault::Memory);
@@ -318,24 +274,10 @@ impl State {
         }
     }
 
-    fn end_dictionary(&mut self)
-        requires { IsTable self.old.table }
-        ensures table { IsTable self.new.table }
-        ensures done { (vec : ℕ) → seen self.new ≡ standing_after vec OfDictEnd (seen self.old) }
-    {
-        self.dict.finish();
-    }
-
     // Takes a vector that stands where it may, if there is no reason against it.
     fn take(&mut self, vec: u8, vector: &Vector) -> Result<(), AdmitFault>
-        requires table { IsTable self.old.table }
-        requires before { BeganBefore (record { rec = self.old.rec; vec = vec }) (seen self.old).active }
-        ensures table { OnOk result (IsTable self.new.table) }
-        ensures done { OnOk result (seen self.new ≡ standing_after vec vector.now (seen self.old)) }
-        ensures exact { Judges (own_fault (seen self.old) vector.now) result }
-        ensures memory { OnWant result (IsTrue (takes_memory (seen self.old) vector.now &&
-            may_want (own_fault (seen self.old) vector.now))) }
-        ensures left { Leaves self.old.dict self.new.dict result }
+        requires before { BeganBefore (record { rec = self.old.rec; vec = vec }) (standing_in self.old).active }
+        ensures { TakesVector (own_fault (standing_in self.old) vector.now) vec vector.now self.old self.new result }
     {
         match vector {
             Vector::Start(xid) => self.start(vec, *xid),
@@ -345,7 +287,7 @@ impl State {
             Vector::Rollback(xid) => self.rollback(*xid),
             Vector::Table(row) => self.add_table(row),
             Vector::DictEnd => {
-                self.end_dictionary();
+                self.dict.finish();
                 Ok(())
             }
         }
@@ -353,16 +295,11 @@ impl State {
 
     // Takes a vector of a log of this header, if there is no reason against it.
     fn step(&mut self, head: &Header, vec: u8, vector: &Vector) -> Result<(), AdmitFault>
-        requires table { IsTable self.old.table }
-        requires before { BeganBefore (record { rec = self.old.rec; vec = vec }) (seen self.old).active }
-        ensures table { OnOk result (IsTable self.new.table) }
-        ensures next { OnOk result (BeganBefore (record { rec = self.new.rec; vec = vec + 1 }) (seen self.new).active) }
+        requires before { BeganBefore (record { rec = self.old.rec; vec = vec }) (standing_in self.old).active }
+        ensures takes { TakesVector (vector_fault head.now (standing_in self.old) vector.now) vec vector.now self.old
+            self.new result }
+        ensures next { OnOk result (BeganBefore (record { rec = self.new.rec; vec = vec + 1 }) (standing_in self.new).active) }
         ensures same { OnOk result (self.new.rec ≡ self.old.rec) }
-        ensures done { OnOk result (seen self.new ≡ standing_after vec vector.now (seen self.old)) }
-        ensures exact { Judges (vector_fault head.now (seen self.old) vector.now) result }
-        ensures memory { OnWant result (IsTrue (takes_memory (seen self.old) vector.now &&
-            may_want (vector_fault head.now (seen self.old) vector.now))) }
-        ensures left { Leaves self.old.dict self.new.dict result }
     {
         if self.is_misplaced(head, vector) {
             return Err(AdmitFault::Law(LawFault::Dictionary));
@@ -373,14 +310,13 @@ impl State {
     // Takes these vectors, the first of which has this number.
     fn take_all(&mut self, head: &Header, vectors: &[Vector]) -> Result<(), AdmitFault>
         requires size { length vectors.now ≤ 255 }
-        requires table { IsTable self.old.table }
-        requires before { BeganBefore (record { rec = self.old.rec; vec = 1 }) (seen self.old).active }
-        ensures ready { OnOk result (IsReady self.new) }
+        requires before { BeganBefore (record { rec = self.old.rec; vec = 1 }) (standing_in self.old).active }
+        ensures ready { OnOk result (IsBetweenRecords self.new) }
         ensures same { OnOk result (self.new.rec ≡ self.old.rec) }
-        ensures done { OnOk result (seen self.new ≡ standing_after_all 1 vectors.now (seen self.old)) }
-        ensures exact { Judges (vectors_fault head.now 1 vectors.now (seen self.old)) result }
-        ensures memory { OnWant result (IsTrue (may_want_in head.now 1 vectors.now (seen self.old))) }
-        ensures left { Leaves (left_by_vectors head.now 1 vectors.now (seen self.old)) self.new.dict result }
+        ensures done { OnOk result (standing_in self.new ≡ standing_after_all 1 vectors.now (standing_in self.old)) }
+        ensures exact { Judges (vectors_fault head.now 1 vectors.now (standing_in self.old)) result }
+        ensures memory { OnWant result (IsTrue (may_want_in head.now 1 vectors.now (standing_in self.old))) }
+        ensures left { Leaves (left_by_vectors head.now 1 vectors.now (standing_in self.old)) self.new.dict result }
     {
         let mut rest = vectors;
         let mut vec: u16 = 1;
@@ -395,12 +331,12 @@ impl State {
     /// An equal one, which owns memory of its own.
     #[tactic(auto, using(crate::proofs::CopyLaws::began_too))]
     pub fn copy(&self) -> Result<State, NoMemory>
-        requires { IsReady self.now }
-        ensures ready { IfOk result (λ copy. IsReady copy) }
-        ensures same { IfOk result (λ copy. seen copy ≡ seen self.now) }
+        requires { IsBetweenRecords self.now }
+        ensures ready { IfOk result (λ copy. IsBetweenRecords copy) }
+        ensures same { IfOk result (λ copy. standing_in copy ≡ standing_in self.now) }
     {
         let dict = self.dict.copy()?;
-        let table = self.table.copy(self.alloc)?;
+        let transactions = self.transactions.copy(self.alloc)?;
         Ok(State {
             alloc: self.alloc,
             first: self.first,
@@ -410,20 +346,20 @@ impl State {
             scn: self.scn,
             commit_scn: self.commit_scn,
             dict,
-            table,
+            transactions,
         })
     }
 
     /// Takes the next record, if there is no reason against it.
     pub fn admit(&mut self, head: &Header, rec: &RedoRec) -> Result<(), AdmitFault>
         requires room { self.old.rec + 1 < 2 ^ 64 }
-        requires ready { IsReady self.old }
-        ensures ready { OnOk result (IsReady self.new) }
+        requires ready { IsBetweenRecords self.old }
+        ensures ready { OnOk result (IsBetweenRecords self.new) }
         ensures counted { OnOk result (self.new.rec ≡ self.old.rec + 1) }
-        ensures admitted { OnOk result (seen self.new ≡ record_after (head.now, rec.now) (seen self.old)) }
-        ensures exact { Judges (record_fault (seen self.old) (head.now, rec.now)) result }
-        ensures memory { OnWant result (IsTrue (wants_memory (seen self.old) (head.now, rec.now))) }
-        ensures left { Leaves (dictionary_left (seen self.old) (head.now, rec.now)) self.new.dict result }
+        ensures admitted { OnOk result (standing_in self.new ≡ record_after (head.now, rec.now) (standing_in self.old)) }
+        ensures exact { Judges (record_fault (standing_in self.old) (head.now, rec.now)) result }
+        ensures memory { OnWant result (IsTrue (wants_memory (standing_in self.old) (head.now, rec.now))) }
+        ensures left { Leaves (dictionary_left (standing_in self.old) (head.now, rec.now)) self.new.dict result }
     {
         if let Some(fault) = self.whole_refusal(head, rec) {
             return Err(AdmitFault::Law(fault));

@@ -1,7 +1,6 @@
 use Rattle.std.proofs.Common.{◌∙◌, ap}
 use Rattle.std.specs.BTreeMap.{insert_entry}
-use Rattle.redo_law.specs.Held.{pos_cmp}
-use Rattle.redo_law.proofs.Ids.{pos_total}
+use Rattle.rl_value.specs.Order.{pos_cmp, pos_total}
 use Rattle.redo_law.proofs.CopyLaws.{copied_step}
 use Rattle.redo_law.proofs.copies.copied_txns.Goals as goal
 

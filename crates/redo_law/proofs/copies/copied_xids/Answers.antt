@@ -1,5 +1,4 @@
-use Rattle.redo_law.specs.Held.{xid_cmp}
-use Rattle.redo_law.proofs.Ids.{xid_total}
+use Rattle.rl_value.specs.Order.{xid_cmp, xid_total}
 use Rattle.redo_law.proofs.CopyLaws.{copied_step}
 use Rattle.redo_law.proofs.copies.copied_xids.Goals as goal
 

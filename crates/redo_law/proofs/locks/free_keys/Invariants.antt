@@ -2,12 +2,13 @@ use Rattle.std.proofs.Common.{◌≡◌, length}
 use Rattle.std.specs.BTreeMap as tree
 use Rattle.rl_value.specs.declared.key.Key.{Key}
 use Rattle.rl_value.specs.Order.{key_cmp}
-use Rattle.redo_law.specs.Held.{freed}
+use Rattle.redo_law.specs.Held.{hold_after_free}
 use Rattle.redo_law.proofs.locks.free_keys.Given as goal
 
 -- with the keys that are left, the locks are what they are with all
 abbrev pub invariant-loop-rest : goal.invariant-loop-rest
-invariant-loop-rest l = (q : Key) → freed (tree.get key_cmp l.locks) l.rest q ≡ freed (tree.get key_cmp l.initial.locks) l.keys q
+invariant-loop-rest l = (q : Key) → hold_after_free (tree.get key_cmp l.locks) l.rest q ≡
+    hold_after_free (tree.get key_cmp l.initial.locks) l.keys q
 
 abbrev pub decreases-loop-rest : goal.decreases-loop-rest
 decreases-loop-rest l = length l.rest

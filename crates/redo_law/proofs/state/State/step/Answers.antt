@@ -1,6 +1,6 @@
 use Rattle.std.proofs.Common.{◌+◌, sym, ap, subst, OnOk, Ok, Err, Result}
 use Rattle.redo_spec.specs.Standing.{Standing}
-use Rattle.redo_law.specs.OpenTable.{txns_of, BeganBefore}
+use Rattle.redo_law.specs.OpenTransactions.{BeganBefore}
 use Rattle.redo_law.proofs.BeganLaws.{began_next}
 use Rattle.redo_law.proofs.state.State.step.Goals as goal
 
@@ -11,7 +11,7 @@ turned (Err x) f p = tt
 pub returns-clause-next : goal.returns-clause-next
 returns-clause-next c = turned c.take.result (λ p.
     subst (λ (s : Standing). BeganBefore (record { rec = s.rec; vec = c.args.vec + 1 }) s.active) (sym p)
-    (began_next c.args.self.now.dict.tables c.args.self.now.rec c.args.vec c.args.vector.now (txns_of c.args.self.now.table)
+    (began_next c.args.self.now.dict.tables c.args.self.now.rec c.args.vec c.args.vector.now c.args.self.now.transactions
     c.requires.before)) c.take.ensures.done
 
 pub returns-clause-same : goal.returns-clause-same

@@ -2,8 +2,8 @@ use Rattle.std.proofs.Common.{◌≡◌, ◌+◌, ◌≤◌, length, true}
 use Rattle.redo_spec.specs.Standing.{standing_after_all}
 use Rattle.redo_spec.specs.Law.{vectors_fault, left_by_vectors}
 use Rattle.redo_law.specs.Calls.{may_want_in}
-use Rattle.redo_law.specs.OpenTable.{IsTable, BeganBefore}
-use Rattle.redo_law.specs.Seen.{seen}
+use Rattle.redo_law.specs.OpenTransactions.{BeganBefore}
+use Rattle.redo_law.specs.States.{standing_in}
 use Rattle.redo_law.proofs.state.State.take_all.Given as goal
 
 -- the vectors that are left judge and leave as all did
@@ -12,12 +12,13 @@ invariant-loop-rest l = record {
   size : l.vec + length l.rest ≤ 256;
   some : 1 ≤ l.vec;
   same : l.self.rec ≡ l.initial.self.rec;
-  table : IsTable l.self.table;
-  before : BeganBefore (record { rec = l.self.rec; vec = l.vec }) (seen l.self).active;
-  done : standing_after_all l.vec l.rest (seen l.self) ≡ standing_after_all 1 l.vectors (seen l.initial.self);
-  fault : vectors_fault l.head l.vec l.rest (seen l.self) ≡ vectors_fault l.head 1 l.vectors (seen l.initial.self);
-  memory : may_want_in l.head l.vec l.rest (seen l.self) ≡ true → may_want_in l.head 1 l.vectors (seen l.initial.self) ≡ true;
-  left : left_by_vectors l.head l.vec l.rest (seen l.self) ≡ left_by_vectors l.head 1 l.vectors (seen l.initial.self);
+  before : BeganBefore (record { rec = l.self.rec; vec = l.vec }) (standing_in l.self).active;
+  done : standing_after_all l.vec l.rest (standing_in l.self) ≡ standing_after_all 1 l.vectors (standing_in l.initial.self);
+  fault : vectors_fault l.head l.vec l.rest (standing_in l.self) ≡ vectors_fault l.head 1 l.vectors (standing_in l.initial.self);
+  memory : may_want_in l.head l.vec l.rest (standing_in l.self) ≡ true →
+      may_want_in l.head 1 l.vectors (standing_in l.initial.self) ≡ true;
+  left : left_by_vectors l.head l.vec l.rest (standing_in l.self) ≡
+      left_by_vectors l.head 1 l.vectors (standing_in l.initial.self);
 }
 
 abbrev pub decreases-loop-rest : goal.decreases-loop-rest

@@ -1,9 +1,9 @@
-//! The open transactions as they are kept.
+//! The open transactions, kept so that each test finds what it asks for.
 //!
 //! Each stands by the position of its START, so that those of a standing come in order. An id leads to its START, and each
 //! key that is touched to its holder, so that no test walks over the open transactions or their changes. An end walks over
 //! its own transaction's.
-ghost use Rattle.std.specs.Prelude.{◌≡◌, ◌++◌, ◌∷◌, [], ◌<◌, ◌≤◌, ◌^◌, length, OnOk, IfOk, Option, None, ◌&&◌};
+ghost use Rattle.std.specs.Prelude.{◌≡◌, ◌++◌, ◌∷◌, [], ◌<◌, ◌^◌, length, OnOk, IfOk, Option, None, ◌&&◌};
 ghost use Rattle.std.specs.BTreeMap as tree;
 ghost use Rattle.rl_value.specs.Order.{key_cmp};
 ghost use Rattle.redo_spec.specs.Locks.{least};
@@ -14,8 +14,8 @@ ghost use Rattle.redo_law.specs.Shown.{shown_pair};
 ghost use Rattle.rl_value.specs.Outcome.{is_empty};
 ghost use Rattle.redo_spec.specs.History.{same_xid};
 ghost use Rattle.redo_law.specs.Calls.{open_of, start_rec};
-ghost use Rattle.redo_law.specs.Held.{taken, kept_out};
-ghost use Rattle.redo_law.specs.OpenTable.{IsTable, BeganBefore, GivesBack, txns_of, change_count};
+ghost use Rattle.redo_law.specs.Held.{hold_after_take, contended_keys};
+ghost use Rattle.redo_law.specs.OpenTransactions.{BeganBefore, GivesBack, change_count};
 
 use crate::copies::{copied_locks, copied_txns, copied_xids};
 use crate::hold::Hold;
@@ -24,23 +24,36 @@ use crate::survivors::{Open, Survivors, TouchedKeys};
 use rl_value::{Key, NoMemory, Pos, Xid};
 use std::alloc::Global;
 use std::collections::BTreeMap;
+use std::marker::Model;
 
 /// The open transactions by their START, the START of each id, the holder of each key, and how many surviving changes
 /// there are.
 #[derive(Drop)]
-pub struct Table {
-    pub xids: BTreeMap<Xid, Pos>,
-    pub txns: BTreeMap<Pos, Open>,
-    pub locks: BTreeMap<Key, Hold>,
-    pub survivors: u64,
+pub struct OpenTransactions {
+    xids: BTreeMap<Xid, Pos>,
+    txns: BTreeMap<Pos, Open>,
+    locks: BTreeMap<Key, Hold>,
+    survivors: u64,
 }
 
-impl Table {
-    pub fn new(alloc: Global) -> Table
-        ensures table { IsTable result }
-        ensures empty { txns_of result ≡ [] }
+impl Model for OpenTransactions {
+    ghost use Rattle.std.specs.Prelude.{List};
+    ghost use Rattle.redo_spec.specs.Standing.{OpenTxn};
+
+    ghost Value = { List OpenTxn };
+
+    ghost use Rattle.redo_law.specs.Consistency.{txns_by_start, IsConsistent};
+
+    ghost view = { txns_by_start };
+
+    ghost invariant = { IsConsistent };
+}
+
+impl OpenTransactions {
+    pub fn new(alloc: Global) -> OpenTransactions
+        ensures { result ≡ [] }
     {
-        Table {
+        OpenTransactions {
             xids: BTreeMap::new(alloc),
             txns: BTreeMap::new(alloc),
             locks: BTreeMap::new(alloc),
@@ -50,16 +63,14 @@ impl Table {
 
     /// A transaction of this id is open.
     pub fn is_open(&self, xid: Xid) -> bool
-        requires { IsTable self.now }
-        ensures { result ≡ list_any (λ t. same_xid t.xid xid) (txns_of self.now) }
+        ensures { result ≡ list_any (λ t. same_xid t.xid xid) self.now }
     {
         self.xids.contains_key(&xid)
     }
 
     /// The record of the START of the open transaction of this id.
     pub fn start_of(&self, xid: Xid) -> Option<u64>
-        requires { IsTable self.now }
-        ensures { result ≡ start_rec xid (txns_of self.now) }
+        ensures { result ≡ start_rec xid self.now }
     {
         match self.xids.get(&xid) {
             None => None,
@@ -69,8 +80,7 @@ impl Table {
 
     /// The open transaction of this id has no surviving change.
     pub fn nothing_survives(&self, xid: Xid) -> bool
-        requires { IsTable self.now }
-        ensures { result ≡ list_any (λ t. same_xid t.xid xid && is_empty t.keys) (txns_of self.now) }
+        ensures { result ≡ list_any (λ t. same_xid t.xid xid && is_empty t.keys) self.now }
     {
         let Some(start) = self.xids.get(&xid) else {
             return false;
@@ -83,31 +93,27 @@ impl Table {
 
     /// How many surviving changes there are.
     pub fn count(&self) -> u64
-        requires { IsTable self.now }
-        ensures { result ≡ change_count (txns_of self.now) }
+        ensures { result ≡ change_count self.now }
     {
         self.survivors
     }
 
     /// The least of these keys that another open transaction than this one holds, with its holder.
     pub fn lock_on<'k>(&self, xid: Xid, keys: &'k [Key]) -> Option<(&'k Key, Xid)>
-        requires { IsTable self.now }
-        ensures { option_map shown_pair result ≡ least (kept_out xid keys.now (txns_of self.now)) }
+        ensures { option_map shown_pair result ≡ least (contended_keys xid keys.now self.now) }
     {
         least_blocked(&self.locks, xid, keys)
     }
 
     /// An equal one, which owns memory of its own.
-    #[tactic(auto, using(crate::proofs::CopyLaws::copied_table))]
-    pub fn copy(&self, alloc: Global) -> Result<Table, NoMemory>
-        requires { IsTable self.now }
-        ensures table { IfOk result (λ copy. IsTable copy) }
-        ensures same { IfOk result (λ copy. txns_of copy ≡ txns_of self.now) }
+    #[tactic(auto, using(crate::proofs::CopyLaws::copied_consistent))]
+    pub fn copy(&self, alloc: Global) -> Result<OpenTransactions, NoMemory>
+        ensures { IfOk result (λ copy. copy ≡ self.now) }
     {
         let xids = copied_xids(alloc, &self.xids)?;
         let txns = copied_txns(alloc, &self.txns)?;
         let locks = copied_locks(alloc, &self.locks)?;
-        Ok(Table {
+        Ok(OpenTransactions {
             xids,
             txns,
             locks,
@@ -117,8 +123,7 @@ impl Table {
 
     /// Drops all transactions.
     pub fn clear(&mut self)
-        ensures table { IsTable self.new }
-        ensures empty { txns_of self.new ≡ [] }
+        ensures { self.new ≡ [] }
     {
         self.xids.clear();
         self.txns.clear();
@@ -126,13 +131,11 @@ impl Table {
         self.survivors = 0;
     }
 
-    /// One more transaction is open. Where memory is refused, the table is no longer of use.
+    /// One more transaction is open. Where memory is refused, nothing is said of them any more.
     pub fn start(&mut self, alloc: Global, at: Pos, xid: Xid) -> Result<(), NoMemory>
-        requires table { IsTable self.old }
-        requires before { BeganBefore at (txns_of self.old) }
-        requires fresh { open_of xid (txns_of self.old) ≡ None }
-        ensures table { OnOk result (IsTable self.new) }
-        ensures started { OnOk result (txns_of self.new ≡ txns_of self.old ++ record { start = at; xid = xid; keys = [] } ∷ []) }
+        requires before { BeganBefore at self.old }
+        requires fresh { open_of xid self.old ≡ None }
+        ensures { OnOk result (self.new ≡ self.old ++ record { start = at; xid = xid; keys = [] } ∷ []) }
     {
         let open = Open {
             xid,
@@ -142,19 +145,19 @@ impl Table {
             return Err(NoMemory);
         }
         if self.txns.insert(at, open).is_err() {
+            // The id has no transaction, so nothing is kept.
+            *self = OpenTransactions::new(alloc);
             return Err(NoMemory);
         }
         Ok(())
     }
 
-    /// The transaction of this id made a change that touches these keys, if it is open. Where memory is refused, the table
-    /// is no longer of use.
-    pub fn touch(&mut self, xid: Xid, keys: Vec<Key>) -> Result<(), NoMemory>
-        requires table { IsTable self.old }
-        requires free { least (kept_out xid keys.items (txns_of self.old)) ≡ None }
-        requires room { change_count (txns_of self.old) < 2 ^ 19 }
-        ensures table { OnOk result (IsTable self.new) }
-        ensures touched { OnOk result (txns_of self.new ≡ with_open (open_txn_after_change keys.items) xid (txns_of self.old)) }
+    /// The transaction of this id made a change that touches these keys, if it is open. Where memory is refused,
+    /// nothing is said of them any more.
+    pub fn touch(&mut self, alloc: Global, xid: Xid, keys: Vec<Key>) -> Result<(), NoMemory>
+        requires free { least (contended_keys xid keys.items self.old) ≡ None }
+        requires room { change_count self.old < 2 ^ 19 }
+        ensures { OnOk result (self.new ≡ with_open (open_txn_after_change keys.items) xid self.old) }
     {
         let Some(start) = self.xids.get(&xid) else {
             return Ok(());
@@ -163,7 +166,11 @@ impl Table {
         match self.txns.get_mut(&start) {
             None => Ok(()),
             Some(open) => {
-                take(open, &mut self.locks, keys)?;
+                if take(open, &mut self.locks, keys).is_err() {
+                    // Some of the keys may be taken already, so nothing is kept.
+                    *self = OpenTransactions::new(alloc);
+                    return Err(NoMemory);
+                }
                 self.survivors += 1;
                 Ok(())
             }
@@ -172,9 +179,7 @@ impl Table {
 
     /// The latest surviving change of the transaction of this id is taken back, if it is open and has one.
     pub fn undo(&mut self, xid: Xid)
-        requires { IsTable self.old }
-        ensures table { IsTable self.new }
-        ensures undone { txns_of self.new ≡ with_open open_txn_after_undo xid (txns_of self.old) }
+        ensures { self.new ≡ with_open open_txn_after_undo xid self.old }
     {
         let Some(start) = self.xids.get(&xid) else {
             return;
@@ -189,9 +194,7 @@ impl Table {
 
     /// The transaction of this id ends, if it is open.
     pub fn close(&mut self, xid: Xid)
-        requires { IsTable self.old }
-        ensures table { IsTable self.new }
-        ensures closed { txns_of self.new ≡ without_open xid (txns_of self.old) }
+        ensures { self.new ≡ without_open xid self.old }
     {
         let Some(start) = self.xids.remove(&xid) else {
             return;
@@ -217,7 +220,8 @@ fn has_none(changes: &[TouchedKeys]) -> bool
 fn take(txn: &mut Open, locks: &mut BTreeMap<Key, Hold>, keys: Vec<Key>) -> Result<(), NoMemory>
     ensures keys { OnOk result (txn.new ≡ record txn.old { keys = txn.old.keys ++ keys.items ∷ [] }) }
     ensures locks { OnOk result ((q : Key) → tree.get key_cmp locks.new q ≡
-        taken (tree.get key_cmp locks.old) keys.items (record { holder = txn.old.xid; change = length txn.old.keys }) q) }
+        hold_after_take (tree.get key_cmp locks.old) keys.items
+        (record { holder = txn.old.xid; change = length txn.old.keys }) q) }
 {
     let hold = Hold {
         holder: txn.xid,

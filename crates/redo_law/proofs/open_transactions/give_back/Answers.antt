@@ -2,9 +2,9 @@ use Rattle.std.proofs.Common.{◌≡◌, subst, length, sym, ap, ◌∙◌, refl
 use Rattle.std.specs.BTreeMap as tree
 use Rattle.rl_value.specs.declared.key.Key.{Key}
 use Rattle.rl_value.specs.Order.{key_cmp}
-use Rattle.redo_law.specs.Held.{freed_at}
-use Rattle.redo_law.proofs.TableLaws.{gives_none, gives_one}
-use Rattle.redo_law.proofs.table.give_back.Goals as goal
+use Rattle.redo_law.specs.Held.{hold_after_undo}
+use Rattle.redo_law.proofs.TransactionLaws.{gives_none, gives_one}
+use Rattle.redo_law.proofs.open_transactions.give_back.Goals as goal
 
 none_match : {A : Type 0} (P : Type 0) (Q : A → Type 0) (o : Option A) → MatchOption o P Q → o ≡ None → P
 none_match P Q None p e = p
@@ -26,6 +26,7 @@ returns c =
     c.pop.ensures c.in-Some.is in
     gives_one c.args.txn.now _ c.in-Some.keys (tree.get key_cmp c.args.locks.now) _ h refl (λ q.
     c.free_keys_of.ensures q
-    ∙ ap (λ ks. freed_at (tree.get key_cmp c.args.locks.now) ks c.args.txn.now.xid (length c.items.result.now) q)
+    ∙ ap (λ ks. hold_after_undo (tree.get key_cmp c.args.locks.now) ks c.args.txn.now.xid (length c.items.result.now) q)
     c.items-2.ensures
-    ∙ ap (λ n. freed_at (tree.get key_cmp c.args.locks.now) c.in-Some.keys c.args.txn.now.xid n q) (ap length c.items.ensures))
+    ∙ ap (λ n. hold_after_undo (tree.get key_cmp c.args.locks.now) c.in-Some.keys c.args.txn.now.xid n q)
+    (ap length c.items.ensures))
