@@ -1,4 +1,5 @@
-//! Runs the program over hostile logs, words and devices, and tests each run's end: a status of the manual's table, and its line.
+//! Runs the program over hostile logs, words and devices, and tests each run's end: a status of the manual's table, its line, and
+//! the sentence on the standard error.
 //!
 //!     hostile PROGRAM FOLDER COUNT      FOLDER is a scratch folder
 //!
@@ -235,7 +236,25 @@ fn fault_of(output: &Output) -> Option<String> {
         17 => last == "FAULT NOTBUILT",
         _ => false,
     };
-    if fits && output.stderr.is_empty() { None } else { Some(format!("status {code}, last line {last:?}, {} bytes of errors", output.stderr.len())) }
+    if fits && is_explained(code, &output.stderr) {
+        return None;
+    }
+    Some(format!("status {code}, last line {last:?}, on the standard error {:?}", String::from_utf8_lossy(&output.stderr)))
+}
+
+/// Whether this is what the standard error has after a run with this code: nothing where all is done, and else a sentence, which
+/// names the log's file where the log is its cause, and the page of usage behind it or alone. No byte of a word reaches a terminal
+/// unless it is printable.
+fn is_explained(code: i32, errors: &[u8]) -> bool {
+    let text = String::from_utf8_lossy(errors);
+    let is_printable = errors.iter().all(|byte| *byte == b'\n' || (b' '..=b'~').contains(byte));
+    let is_sentence = text.ends_with('\n') && text.lines().count() == 1;
+    is_printable && match code {
+        0 => errors.is_empty(),
+        2 => ["sqlapply: ", "Usage: ", "sqlapply 0"].iter().any(|begin| text.starts_with(begin)),
+        3 | 8 | 9 | 10 | 14 => is_sentence && text.starts_with("sqlapply: redo/log_"),
+        _ => is_sentence && text.starts_with("sqlapply: "),
+    }
 }
 
 /// A worker's own folder with `redo/` in it.
@@ -329,10 +348,11 @@ fn words(program: &Path, folder: &Path) -> Result<usize, String> {
     let room = room(folder, 0);
     fs::write(room.join("redo/log_1.srl"), first()).expect("a log");
     let long = "9".repeat(100_000);
-    let cases: [(&[&str], i32); 24] = [
+    let cases: [(&[&str], i32); 27] = [
         (&[], 2), (&[""], 2), (&["fold"], 2), (&["fold", ""], 2), (&["fold", "0"], 2), (&["fold", "01"], 2), (&["fold", "+1"], 2),
         (&["fold", "-1"], 2), (&["fold", "1 "], 2), (&["fold", "4294967296"], 2), (&["fold", &long], 2), (&["fold", "1", "1"], 2),
         (&["FOLD", "1"], 2), (&["fold", "\u{661}"], 2), (&["fold", "0x1"], 2), (&["fold", "1e0"], 2), (&["--help"], 2), (&["--version"], 2),
+        (&["help"], 2), (&["-h"], 2), (&["\u{1b}[2J"], 2),
         (&["fold", "1"], 0), (&["fold", "2"], 8), (&["fold", "4294967295"], 8), (&["run"], 17), (&["mine", "1", "1"], 17), (&["load", "x"], 17),
     ];
     for (words, code) in cases {
@@ -414,30 +434,37 @@ fn outputs(program: &Path, folder: &Path) -> Result<usize, String> {
     let path = room.join("redo/log_1.srl");
     fs::write(&path, first()).expect("a log");
     let out = File::options().write(true).open("/dev/full").expect("a full device");
-    let status = Command::new(program).args(["fold", "1"]).current_dir(&room).stdin(Stdio::null()).stdout(out).status().expect("the program runs");
-    if status.code() != Some(5) {
-        return Err(format!("an output that is full: status {status:?}"));
+    let full = Command::new(program).args(["fold", "1"]).current_dir(&room).stdin(Stdio::null()).stdout(out).output().expect("the program runs");
+    if full.status.code() != Some(5) || !is_explained(5, &full.stderr) {
+        return Err(format!("an output that is full: {full:?}"));
     }
     // A disk that fills up: a write takes the bytes up to the limit of a file's size, and the next one takes none.
     fs::write(&path, many_rows()).expect("a log");
     let whole = run(program, &room, &["fold", "1"]);
     expect("1,000 rows", &whole, 0)?;
-    let short = "trap '' XFSZ; ulimit -f 8; exec \"$0\" fold 1 > lines";
+    let short = "trap '' XFSZ; ulimit -f 8; exec \"$0\" fold 1 > lines 2>/dev/null";
     let status = Command::new("sh").args(["-c", short]).arg(program).current_dir(&room).status().expect("the program runs");
     let lines = fs::read(room.join("lines")).expect("lines");
     if status.code() != Some(5) || lines.len() >= whole.stdout.len() || lines != whole.stdout[..lines.len()] {
         return Err(format!("an output that fills up: status {status:?}, {} bytes of {}", lines.len(), whole.stdout.len()));
     }
     fs::write(&path, first()).expect("a log");
-    let closed = Command::new("sh").args(["-c", "exec \"$0\" fold 1 >&-"]).arg(program).current_dir(&room).status().expect("the program runs");
+    let closed = Command::new("sh").args(["-c", "exec \"$0\" fold 1 >&- 2>/dev/null"]).arg(program).current_dir(&room).status().expect("the program runs");
     if !matches!(closed.code(), Some(5 | 0)) {
         return Err(format!("an output that is closed: status {closed:?}"));
     }
-    let gone = Command::new("sh").args(["-c", "\"$0\" fold 1 | true; exit 0"]).arg(program).current_dir(&room).status().expect("the program runs");
+    let gone = Command::new("sh").args(["-c", "\"$0\" fold 1 2>/dev/null | true; exit 0"]).arg(program).current_dir(&room).status().expect("the program runs");
     if !gone.success() {
         return Err(format!("an output that nobody reads: {gone:?}"));
     }
-    Ok(5)
+    // Where the standard error takes nothing, or is closed, the lines and the status are as they are.
+    for errors in ["2>/dev/full", "2>&-"] {
+        let absent = Command::new("sh").args(["-c", &format!("exec \"$0\" fold 7 {errors}")]).arg(program).current_dir(&room).output().expect("the program runs");
+        if absent.status.code() != Some(8) || absent.stdout != b"APPLIED_SCN 0\nEND 0 0 GAP 7 7\n" {
+            return Err(format!("a standard error that takes nothing ({errors}): {absent:?}"));
+        }
+    }
+    Ok(7)
 }
 
 fn main() {

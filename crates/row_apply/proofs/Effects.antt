@@ -142,7 +142,8 @@ pub sound_rows : (ts : Tables) (d : TableRow) (id : ℕ) (ws : List Write) → t
     AreSound (overlaid ts ws) → AreSoundRows d (rows_after id ws (rows_of ts id))
 sound_rows [] d id ws named s = absurd (cc)
 sound_rows (t ∷ ts) d id ws named s =
-    elim (t.row.id == id) as (λ b. (t.row.id == id) ≡ b → AreSoundRows d (rows_after id ws (if b then t.rows else rows_of ts id))) [
+    elim (t.row.id == id) as (λ b. (t.row.id == id) ≡ b →
+    AreSoundRows d (rows_after id ws (if b then t.rows else rows_of ts id))) [
       | true ↦ λ is.
           let at : t.row.id ≡ id = grind (arith, nat_tests) in
           let same : t.row ≡ d = named_first t ts d id is named in

@@ -1,9 +1,11 @@
 //! The program: does what its words ask, over the files of the current folder and the standard streams.
 //!
 //! All lines go to the standard output, also those of refusals. The exit code is the status's. It is 15 too where memory for
-//! the words or the devices is refused.
+//! the words or the devices is refused. What a person should know beside that goes to the standard error (`help.rt`).
 #![tactic(auto)]
 
+mod help;
+mod sentence;
 #[cfg(test)]
 mod tests;
 mod words;
@@ -15,6 +17,7 @@ ghost use Rattle.standby.specs.Command.{command_of};
 ghost use Rattle.sqlapply.specs.Exit.{EndsWith};
 
 use file_ports::{FileArchive, StdSink, StdSource};
+use help::{tell, tell_memory};
 use rl_base::Status;
 use rl_ports::{Archive, Sink, Source};
 use rl_value::Bytes;
@@ -25,6 +28,7 @@ use words::words_of;
 
 fn main(rt: HostRuntime) -> ExitCode {
     let Ok(mut out) = StdSink::new(&rt) else {
+        tell_memory(&rt);
         return ExitCode::from(Status::Memory.code());
     };
     let (Ok(words), Ok(mut input), Ok(archive)) = (
@@ -33,9 +37,11 @@ fn main(rt: HostRuntime) -> ExitCode {
         FileArchive::new(&rt),
     ) else {
         refuse(&mut out, b"FAULT MEMORY\n");
+        tell_memory(&rt);
         return ExitCode::from(Status::Memory.code());
     };
     let (code, _) = run(rt.alloc(), &words, &mut input, &mut out, archive);
+    tell(&rt, code, &words);
     code
 }
 
