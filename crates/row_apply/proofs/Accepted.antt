@@ -72,5 +72,7 @@ update_fits tables es t c key row s e f = updated_fits t row c.new (s.fit key ro
 -- the table of an accepted change is there
 pub accepted_table : (ts : List TableRow) (c : Change) → change_fault ts c ≡ None → is_some (table_of ts c.table) ≡ true
 accepted_table ts c e =
-    elim (table_of ts c.table) as (λ o. fault_of_table o c ≡ None → is_some o ≡ true)
-    [ None ↦ λ h. absurd (cc) | Some t ↦ λ h. refl ] e
+    elim (table_of ts c.table) as (λ o. fault_of_table o c ≡ None → is_some o ≡ true) [
+      | None ↦ λ h. absurd (cc)
+      | Some t ↦ λ h. refl
+    ] e

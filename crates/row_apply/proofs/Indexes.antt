@@ -15,7 +15,8 @@ use Rattle.redo_vec.specs.declared.table.TableRow.{TableRow}
 use Rattle.redo_spec.specs.ConflictKeys.{is_null}
 use Rattle.redo_spec.specs.Dictionary.{uniques_of}
 use Rattle.redo_spec.specs.Tables.{values_at}
-use Rattle.row_apply.specs.Kept.{Slots, Owners, Indexed, row_key, unique_key, slot_at, owner_at, indexed_at, IsLive, ArePrimary, AreSlots, IsIndexedBy, AreIndexed, index_at, index_by, index_slot, index_all, Puts, goes_at, Sets, ChangesOnly, OwnersOnly, OneLive, IsFreeAmong, IndexedOnly, IsPrimaryOf}
+use Rattle.row_apply.specs.Kept.{Slots, Owners, Indexed, row_key, unique_key, slot_at, owner_at, indexed_at, IsLive, ArePrimary, AreSlots, IsIndexedBy, AreIndexed, index_at, index_by, index_slot, index_all, is_owner, leads_at, leads_by, leads_slot, leads_all, Puts, goes_at, Sets, ChangesOnly, OwnersOnly, OneLive, IsFreeAmong, IndexedOnly, IsPrimaryOf}
+use Rattle.row_apply.proofs.Fitting.{both, join}
 use Rattle.row_apply.proofs.Orders.{key_is, key_self, key_turned}
 use Rattle.row_apply.proofs.Slots.{lookup-inserted, puts-only}
 
@@ -250,8 +251,8 @@ pub all-only : (t : TableRow) (es : Slots) (owners : Owners) → OwnersOnly t.id
 all-only t [] owners q other = refl
 all-only t (e ∷ es) owners q other =
     all-only t es (if e.0.table == t.id then index_slot t e.0 e.1 owners else owners) q other
-    ∙ elim (e.0.table == t.id) as (λ b. owner_at (if b then index_slot t e.0 e.1 owners else owners) q ≡ owner_at owners q)
-    [ true ↦ slot_else t e.0 e.1 owners q other | false ↦ refl ]
+    ∙ elim (e.0.table == t.id) as (λ b. owner_at (if b then index_slot t e.0 e.1 owners else owners) q ≡
+    owner_at owners q) [ true ↦ slot_else t e.0 e.1 owners q other | false ↦ refl ]
 
 -- each entry of slots in order is found
 greater : (k l : Key) → key_cmp k l ≡ Less → is_eq (key_cmp l k) ≡ false
@@ -277,6 +278,106 @@ pub indexed_all : (t : TableRow) (es : Slots) (owners : Owners) → AreSlots es 
 indexed_all t es owners a one key x i columns live s full =
     all_puts t es es owners i columns key x one (stand es a.primary a.ordered) s live full live
 
+-- ---- whether each value leads to its row
+
+owner_is : (key : Key) (o : Option Key) → is_owner key o ≡ true → o ≡ Some key
+owner_is key None e = absurd (cc)
+owner_is key (Some owner) e = ap Some (key_is owner key e)
+
+leads_if : (b : Bool) (key : Key) (o : Option Key) → (b ≡ false → o ≡ Some key) → (if b then true else is_owner key o) ≡ true
+leads_if true key o is = refl
+leads_if false key o is = ap (is_owner key) (is refl) ∙ key_self key
+
+leads_if_not : (b : Bool) (key : Key) (o : Option Key) → (if b then true else is_owner key o) ≡ true → b ≡ false → o ≡ Some key
+leads_if_not true key o e full = absurd (cc)
+leads_if_not false key o e full = owner_is key o e
+
+by_leads : (owners : Owners) (table : ℕ) (row : List Value) (key : Key) (n : ℕ) (us : List (List ℕ)) →
+    leads_by owners table row key n us ≡ true → (i : ℕ) (columns : List ℕ) → slice_get us i ≡ Some columns →
+    list_any is_null (values_at row columns) ≡ false → owner_at owners
+    (unique_key table (n + i) (values_at row columns)) ≡ Some key
+by_leads owners table row key n [] e i columns s full = absurd (cc)
+by_leads owners table row key n (u ∷ us) e zero columns s full =
+    let same : u ≡ columns = cc in
+    let number : n ≡ n + 0 = omega arith in
+    let here = (both (leads_at owners table row key n u) (leads_by owners table row key (n + 1) us) e).0 in
+    sym (λ j. owner_at owners (unique_key table (number j) (values_at row (same j))))
+    ∙ leads_if_not (list_any is_null (values_at row u)) key (owner_at owners (unique_key table n (values_at row u))) here
+    (ap (λ c. list_any is_null (values_at row c)) same ∙ full)
+by_leads owners table row key n (u ∷ us) e (suc i) columns s full =
+    let number : (n + 1) + i ≡ n + suc i = omega arith in
+    subst (λ (k : ℕ). owner_at owners (unique_key table k (values_at row columns)) ≡ Some key) number
+    (by_leads owners table row key (n + 1) us (both (leads_at owners table row key n u) (leads_by owners table row key (n + 1) us)
+    e).1 i columns s full)
+
+by_leading : (owners : Owners) (table : ℕ) (row : List Value) (key : Key) (n : ℕ) (us : List (List ℕ)) →
+    ((i : ℕ) (columns : List ℕ) → slice_get us i ≡ Some columns →
+    list_any is_null (values_at row columns) ≡ false → owner_at owners (unique_key table (n + i) (values_at row columns)) ≡
+    Some key) → leads_by owners table row key n us ≡ true
+by_leading owners table row key n [] each = refl
+by_leading owners table row key n (u ∷ us) each =
+    let first : n + 0 ≡ n = omega arith in
+    join (leads_at owners table row key n u) (leads_by owners table row key (n + 1) us)
+    (leads_if (list_any is_null (values_at row u)) key (owner_at owners (unique_key table n (values_at row u)))
+    (λ full. subst (λ (k : ℕ). owner_at owners (unique_key table k (values_at row u)) ≡ Some key) first (each 0 u refl full)))
+    (by_leading owners table row key (n + 1) us (λ i columns s full.
+    let number : n + suc i ≡ (n + 1) + i = omega arith in
+    subst (λ (k : ℕ). owner_at owners (unique_key table k (values_at row columns)) ≡ Some key) number
+    (each (suc i) columns s full)))
+
+all_lead : (t : TableRow) (owners : Owners) (es : Slots) → leads_all t owners es ≡ true → (k x : List Value) →
+    slot_at es (row_key t.id k) ≡ Some (Some x) → leads_by owners t.id x (row_key t.id k) 1 (uniques_of t) ≡ true
+all_lead t owners [] led k x live = absurd (cc)
+all_lead t owners (e ∷ es) led k x live =
+    let p = both (if e.0.table == t.id then leads_slot t owners e.0 e.1 else true) (leads_all t owners es) led in
+    elim (is_eq (key_cmp (row_key t.id k) e.0)) as (λ b. is_eq (key_cmp (row_key t.id k) e.0) ≡ b →
+    cond b (Some e.1) (slot_at es (row_key t.id k)) ≡ Some (Some x) →
+    leads_by owners t.id x (row_key t.id k) 1 (uniques_of t) ≡ true) [
+      | true ↦ λ is h.
+          let same : row_key t.id k ≡ e.0 = key_is (row_key t.id k) e.0 is in
+          let slot : e.1 ≡ Some x = cc in
+          let table : (e.0.table == t.id) ≡ true = ap (λ (q : Key). q.table == t.id) (sym same) ∙ self_table t.id in
+          ap (λ (q : Key). leads_by owners t.id x q 1 (uniques_of t)) same
+          ∙ sym (ap (leads_slot t owners e.0) slot)
+          ∙ sym (ap (λ b. if b then leads_slot t owners e.0 e.1 else true) table)
+          ∙ p.0
+      | false ↦ λ is h. all_lead t owners es p.1 k x h
+    ] refl live
+
+-- rows whose values lead to them are indexed
+indexed_led : (t : TableRow) (es : Slots) (owners : Owners) → leads_all t owners es ≡ true →
+    IsIndexedBy es owners t.id (uniques_of t)
+indexed_led t es owners led key row i columns live s full =
+    by_leads owners t.id row (row_key t.id key) 1 (uniques_of t) (all_lead t owners es led key row live) i columns s full
+
+-- and the values of indexed rows lead to them
+slot_leads : (t : TableRow) (all : Slots) (e : Key × Option (List Value)) (owners : Owners) → (slot_at all e.0 ≡ Some e.1) ×
+    (e.0.index ≡ 0) → IsIndexedBy all owners t.id (uniques_of t) → (e.0.table == t.id) ≡ true →
+    (slot : Option (List Value)) → e.1 ≡ slot → leads_slot t owners e.0 slot ≡ true
+slot_leads t all e owners stands was is None at = refl
+slot_leads t all e owners stands was is (Some row) at =
+    let named = as_row_key e.0 t.id is stands.1 in
+    let there : IsLive all t.id e.0.values row = ap (slot_at all) (sym named) ∙ stands.0 ∙ ap Some at in
+    by_leading owners t.id row e.0 1 (uniques_of t) (λ i columns s full. was e.0.values row i columns there s full ∙
+    ap Some (sym named))
+
+led_indexed : (t : TableRow) (all es : Slots) (owners : Owners) → StandIn all es → IsIndexedBy all owners t.id (uniques_of t) →
+    leads_all t owners es ≡ true
+led_indexed t all [] owners stands was = refl
+led_indexed t all (e ∷ es) owners stands was =
+    join (if e.0.table == t.id then leads_slot t owners e.0 e.1 else true) (leads_all t owners es)
+    (elim (e.0.table == t.id) as (λ b. (e.0.table == t.id) ≡ b → (if b then leads_slot t owners e.0 e.1 else true) ≡ true) [
+      | true ↦ λ is. slot_leads t all e owners stands.0 was is e.1 refl
+      | false ↦ λ other. refl
+    ] refl)
+    (led_indexed t all es owners stands.1 was)
+
+-- where each value has one owner, each leads to it after all were indexed
+pub led_single : (t : TableRow) (es : Slots) (owners : Owners) → AreSlots es → OneLive t es →
+    leads_all t (index_all t es owners) es ≡ true
+led_single t es owners a one = led_indexed t es es (index_all t es owners) (stand es a.primary a.ordered)
+    (indexed_all t es owners a one)
+
 -- ---- all tables
 
 pub indexed_else : (table : ℕ) (old new : Slots) (owners after : Owners) (indexed marked : Indexed) →
@@ -295,15 +396,15 @@ indexed_else table old new owners after indexed marked was slots owns marks here
 
 -- a table that is indexed anew
 pub index_marked : (t : TableRow) (slots new : Slots) (owners after : Owners) (indexed unmarked marked : Indexed) →
-    AreSlots slots → AreIndexed slots owners indexed → OneLive t slots → new ≡ slots →
-    after ≡ index_all t slots owners → IndexedOnly t.id indexed unmarked → IndexedOnly t.id unmarked marked →
+    AreIndexed slots owners indexed → leads_all t after slots ≡ true → new ≡ slots →
+    OwnersOnly t.id owners after → IndexedOnly t.id indexed unmarked → IndexedOnly t.id unmarked marked →
     ((keys : List (List ℕ)) → indexed_at marked t.id ≡ Some keys → keys ≡ t.keys) → AreIndexed new after marked
-index_marked t slots new owners after indexed unmarked marked a was one same is first second here =
+index_marked t slots new owners after indexed unmarked marked was led same owns first second here =
     subst (λ (es : Slots). AreIndexed es after marked) (sym same)
-    (indexed_else t.id slots slots owners after indexed marked was (λ q other. refl)
-    (subst (OwnersOnly t.id owners) (sym is) (all-only t slots owners)) (λ id other. second id other ∙ first id other)
+    (indexed_else t.id slots slots owners after indexed marked was (λ q other. refl) owns
+    (λ id other. second id other ∙ first id other)
     (λ keys e. subst (λ (ks : List (List ℕ)). IsIndexedBy slots after t.id (drop 1 ks)) (sym (here keys e))
-    (subst (λ (os : Owners). IsIndexedBy slots os t.id (uniques_of t)) (sym is) (indexed_all t slots owners a one))))
+    (indexed_led t slots after led)))
 
 -- where the index was not made to the end, the table is not indexed
 pub index_unmarked : (table : ℕ) (slots new : Slots) (owners after : Owners) (indexed unmarked : Indexed) →
@@ -315,11 +416,12 @@ index_unmarked table slots new owners after indexed unmarked was slot owns marks
 -- a row that is put, and the table marked again
 pub index_put : (t : TableRow) (old new : Slots) (owners after : Owners) (indexed unmarked marked : Indexed) (gone : Option Key)
     (key : Key) (row : List Value) → AreIndexed old owners indexed →
-    indexed_at indexed t.id ≡ Some t.keys → key ≡ row_key t.id key.values → IsPrimaryOf t.id gone → IsFreeAmong t old gone row →
+    key ≡ row_key t.id key.values → IsPrimaryOf t.id gone → (indexed_at indexed t.id ≡ Some t.keys → IsFreeAmong t old gone row) →
     Puts old new gone key row → after ≡ index_by t.id row key 1 (uniques_of t) owners →
     IndexedOnly t.id indexed unmarked → IndexedOnly t.id unmarked marked →
-    ((keys : List (List ℕ)) → indexed_at marked t.id ≡ Some keys → keys ≡ t.keys) → AreIndexed new after marked
-index_put t old new owners after indexed unmarked marked gone key row was at named of free puts is first second here =
+    ((keys : List (List ℕ)) → indexed_at marked t.id ≡ Some keys → (keys ≡ t.keys) × (indexed_at indexed t.id ≡ Some t.keys))
+    → AreIndexed new after marked
+index_put t old new owners after indexed unmarked marked gone key row was named of free puts is first second here =
     let k = row_key t.id key.values in
     let put : Puts old new gone k row = subst (λ (q : Key). Puts old new gone q row) named puts in
     let same : after ≡ index_by t.id row k 1 (uniques_of t) owners =
@@ -327,9 +429,9 @@ index_put t old new owners after indexed unmarked marked gone key row was at nam
     indexed_else t.id old new owners after indexed marked was (puts-only old new gone k row of put)
     (subst (OwnersOnly t.id owners) (sym same) (by-only t.id row k 1 (uniques_of t) owners))
     (λ id other. second id other ∙ first id other)
-    (λ keys e. subst (λ (ks : List (List ℕ)). IsIndexedBy new after t.id (drop 1 ks)) (sym (here keys e))
+    (λ keys e. let at = here keys e in subst (λ (ks : List (List ℕ)). IsIndexedBy new after t.id (drop 1 ks)) (sym at.0)
     (subst (λ (os : Owners). IsIndexedBy new os t.id (uniques_of t)) (sym same)
-    (indexed_put t old new owners gone key.values row put free (was t.id t.keys at))))
+    (indexed_put t old new owners gone key.values row put (free at.1) (was t.id t.keys at.1))))
 
 -- a row that goes leaves the index right
 gone_not : (b : Bool) (S : Option (Option (List Value))) (x : List Value) → cond b (Some None) S ≡ Some (Some x) →

@@ -1,28 +1,31 @@
 -- What a row that was added leaves: the rows seen after it, which are sound.
-use Rattle.std.proofs.Common.{◌≡◌, ℕ, List, refl, sym, ap, subst, ◌∙◌, cond, ◌&&◌, Option, Some, None, Ok}
+use Rattle.std.proofs.Common.{◌≡◌, ℕ, zero, suc, List, [], ◌∷◌, slice_get, refl, sym, ap, subst, ◌∙◌, ◌&&◌, Option, Some, None, Ok}
 use Rattle.std.proofs.Math.Dec.{T}
 use Rattle.std.specs.Prelude.{IsTrue}
 use Rattle.std.specs.Ordering.{eq_by_cmp}
+use Rattle.std.specs.List.{AllByRecursion}
 use Rattle.std.specs.FinMap.Entries as entries
 use Rattle.rl_value.specs.declared.value.Value.{Value}
 use Rattle.rl_value.specs.declared.key.Key.{Key}
 use Rattle.rl_value.specs.Order.{row_cmp}
 use Rattle.redo_vec.specs.declared.table.TableRow.{TableRow}
 use Rattle.redo_spec.specs.ChangeForm.{is_row_of}
-use Rattle.redo_spec.specs.Dictionary.{table_of}
+use Rattle.redo_spec.specs.Dictionary.{table_of, uniques_of}
 use Rattle.redo_spec.specs.Effect.{add_row, take_row, difference}
 use Rattle.rl_value.specs.Outcome.{◌>>=◌, or_err, refused_by}
 use Rattle.rl_value.specs.declared.miss.Miss.{Miss}
 use Rattle.rl_value.specs.declared.miss.Miss.TheVariants.{Absent}
-use Rattle.redo_spec.specs.Tables.{Rows, Table, Tables, values_at, primary_key, definitions_of, named as named_key}
-use Rattle.row_apply.specs.Adding.{rows_without, goes, values_of, table_without, table_with_row}
+use Rattle.redo_spec.specs.Tables.{Rows, Table, Tables, primary_key, definitions_of, named as named_key}
+use Rattle.row_apply.specs.declared.written.Written.{Written}
+use Rattle.row_apply.specs.Adding.{rows_without, goes, values_of, table_without, table_with_row, FindsSound, HasIndex, IsFreeAt, IsReady}
 use Rattle.redo_spec.specs.Work.{rows_of}
-use Rattle.row_apply.specs.Kept.{Slots, row_key, AreSlots, Sets, Puts, IsPrimaryOf, IsFreeAmong, goes_at, rows_seen, table_seen}
+use Rattle.row_apply.specs.Kept.{Slots, row_key, AreSlots, Sets, Puts, IsPrimaryOf, IsFreeAmong, OneLive, goes_at, rows_seen, table_seen}
+use Rattle.row_apply.specs.KeptIn.{slots_of, IsKept}
 use Rattle.row_apply.specs.Soundness.{AreSoundRows, AreSound}
 use Rattle.row_apply.proofs.Adding.{WasAdded, was_added, sound-minus, sound-added}
 use Rattle.row_apply.proofs.Effects.{sound_base}
-use Rattle.row_apply.proofs.Owners.{none_owns, found_live}
-use Rattle.row_apply.proofs.Slots.{to_T, tie_turned, same_table, find_minus, after_puts, after_set}
+use Rattle.row_apply.proofs.Seeing.{one_live}
+use Rattle.row_apply.proofs.Slots.{to_T, tie_turned, same_table, after_puts, after_set}
 
 going : (gone : Option Key) (table : ℕ) (q : List Value) → IsPrimaryOf table gone →
     goes_at gone (row_key table q) ≡ goes (values_of gone) q
@@ -35,16 +38,27 @@ added : (tables : Tables) (es : Slots) (t : TableRow) (gone : Option (List Value
     WasAdded t (rows_without gone (rows_seen tables es t)) row (table_with_row gone tables es t row)
 added tables es t gone row e = was_added t (rows_without gone (rows_seen tables es t)) row (table_with_row gone tables es t row) e
 
-pub free_among : (tables : Tables) (es : Slots) (t : TableRow) (gone : Option Key) (row : List Value) → AreSlots es →
-    IsPrimaryOf t.id gone →
-    add_row (table_without (values_of gone) tables es t) row ≡ Ok (table_with_row (values_of gone) tables es t row) →
-    IsFreeAmong t es gone row
-free_among tables es t gone row a of e i columns k x u full live stays same =
-    let rows = rows_seen tables es t in
-    let w = added tables es t (values_of gone) row e in
-    none_owns (rows_without (values_of gone) rows) columns (values_at row columns) k x (w.free i columns u full)
-    (find_minus (values_of gone) k rows ∙ ap (λ b. cond b None (entries.find row_cmp k rows)) (sym (going gone t.id k of) ∙ stays)
-    ∙ found_live es t.id k x (rows_of tables t.id) a live) same
+all_at : {A : Type 0} (P : A → Type 0) (xs : List A) (i : ℕ) (x : A) → AllByRecursion P xs → slice_get xs i ≡ Some x → P x
+all_at P [] i x all s = absurd (cc)
+all_at P (y ∷ ys) zero x all s = let same : y ≡ x = cc in subst P same all.0
+all_at P (y ∷ ys) (suc i) x all s = all_at P ys i x all.1 s
+
+pub free_among : (es : Slots) (t : TableRow) (gone : Option Key) (row : List Value) → IsPrimaryOf t.id gone →
+    AllByRecursion (IsFreeAt es t.id (values_of gone) row) (uniques_of t) → IsFreeAmong t es gone row
+free_among es t gone row of all i columns k x u full live stays same =
+    all_at (IsFreeAt es t.id (values_of gone) row) (uniques_of t) i columns all u full k x live
+    (sym (going gone t.id k of) ∙ stays) same
+
+-- the rows of a table that was indexed can be looked at for owners, where what a change finds is sound
+pub now_ready : (tables : Tables) (w : Written) (t : TableRow) (old : Slots) → table_of (definitions_of tables) t.id ≡ Some t →
+    IsKept w → slots_of w ≡ old → (OneLive t old → HasIndex w t) → AreSlots old → FindsSound tables old t → IsReady tables w t
+now_ready tables w t old there kept same index a s = record {
+  there = there;
+  base_sound = s.base_sound;
+  sound = subst (λ (es : Slots). AreSoundRows t (rows_seen tables es t)) (sym same) s.sound;
+  kept = kept;
+  indexed = index (one_live tables old t a s.sound);
+}
 
 put_seen : (tables : Tables) (old new : Slots) (t : TableRow) (gone : Option Key) (key : Key) (row : List Value) → AreSlots old →
     AreSlots new → key ≡ row_key t.id (primary_key t row) → IsPrimaryOf t.id gone →

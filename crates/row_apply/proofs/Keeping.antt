@@ -1,5 +1,5 @@
 -- What an overlay keeps stays right: slots with one more write, and one that is taken back.
-use Rattle.std.specs.Prelude.{OnOk, IsSome}
+use Rattle.std.specs.Prelude.{OnOk, IfOk, IsSome}
 use Rattle.std.proofs.Common.{Result, Ok, Err, ◌≡◌, ℕ, List, [], ◌∷◌, refl, sym, ap, subst, ◌∙◌, Bool, true, false, cond, ◌==◌, arith, Option, Some, None}
 use Rattle.std.specs.declared.cmp.Ordering.TheVariants.{Less, Equal, Greater}
 use Rattle.std.specs.Ordering.{is_eq, match_ordering, nat_cmp}
@@ -34,8 +34,11 @@ primary_inserted (e ∷ es) key slot p k =
 pub primary_removed : (es : Slots) (test : Key → Bool) → ArePrimary es → ArePrimary (remove_entry test es)
 primary_removed [] test p = tt
 primary_removed (e ∷ es) test p =
-    elim (test e.0) as (λ b. ArePrimary (cond b es (e ∷ remove_entry test es)))
-    [ true ↦ p.1 | false ↦ (p.0, primary_removed es test p.1) ]
+    elim (test e.0) as (λ b. ArePrimary (cond b es (e ∷ remove_entry test es))) [
+      | true ↦ p.1
+      | false ↦
+          (p.0, primary_removed es test p.1)
+    ]
 
 pub slots_inserted : (es after : Slots) (key : Key) (slot : Option (List Value)) → AreSlots es → key.index ≡ 0 →
     after ≡ insert_entry key_cmp es key slot → IsStrictlySortedBy key_cmp (keys_of after) → AreSlots after
@@ -123,6 +126,7 @@ restored_row old mid kept new left gone was set a s w sets same is back =
     restored old mid new gone was set a s (w ∙ ap (slot_at old) is) (subst (λ (k : Key). Sets old mid k set) is sets)
     (λ q. back q ∙ ap (λ (es : Slots). cond (is_eq (key_cmp gone q)) was (slot_at es q)) same)
 
-pub found_keys : (keys : Option (List (List ℕ))) (indexed : Indexed) (id : ℕ) (own found : List (List ℕ)) →
-    keys ≡ indexed_at indexed id → indexed_at indexed id ≡ Some own → keys ≡ Some found → found ≡ own
-found_keys keys indexed id own found was at is = cc
+-- what holds of each value holds of the one that was answered
+pub each_ok : {T E : Type 0} (r : Result T E) (P : T → Type 0) → ((x : T) → P x) → IfOk r P
+each_ok (Ok x) P each = each x
+each_ok (Err e) P each = tt

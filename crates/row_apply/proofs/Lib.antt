@@ -11,6 +11,7 @@ pub mod Keeping
 pub mod Seeing
 pub mod Joining
 pub mod Accepted
+pub mod Changing
 pub mod Writing
 pub mod Whole
 pub mod Logged

@@ -146,6 +146,14 @@ unless_goes : (gone : Option (List Value)) (owner : List Value) →
 unless_goes None owner = refl
 unless_goes (Some k) owner = ap (λ b. cond b None (Some owner)) (row_turned k owner)
 
+hidden : (b : Bool) (owner : List Value) → cond b None (Some owner) ≡ None → b ≡ true
+hidden true owner e = refl
+hidden false owner e = absurd (cc)
+
+-- an owner that is not told goes
+pub unless_none : (gone : Option (List Value)) (owner : List Value) → owner_unless gone owner ≡ None → goes gone owner ≡ true
+unless_none gone owner e = hidden (goes gone owner) owner (sym (unless_goes gone owner) ∙ e)
+
 -- the owner, or none where it goes
 pub owner_minus : (gone : Option (List Value)) (rows : Rows) (columns : List ℕ) (values key row : List Value) →
     T (entries.is_sorted row_cmp rows) → HaveOneOwner columns rows →

@@ -1,5 +1,5 @@
 -- What is found where some rows were written over others.
-use Rattle.std.proofs.Common.{◌≡◌, ℕ, ◌+◌, ◌<◌, zero, suc, List, [], ◌∷◌, length, refl, sym, ap, subst, ◌∙◌, Bool, true, false, ◌&&◌, ◌==◌, arith, Option, Some, None, if◌then◌else◌, slice_get, drop, unwrap_or}
+use Rattle.std.proofs.Common.{◌≡◌, ℕ, ◌+◌, ◌<◌, zero, suc, List, [], ◌∷◌, length, refl, sym, ap, subst, ◌∙◌, Bool, true, false, ◌&&◌, ◌==◌, arith, Option, Some, None, if◌then◌else◌, slice_get, drop, unwrap_or, get_or}
 use Rattle.std.specs.List.{list_any}
 use Rattle.std.specs.Option.{IfSome}
 use Rattle.std.specs.FinMap.Entries as entries
@@ -15,12 +15,12 @@ use Rattle.row_apply.specs.declared.written.Written.{Written}
 use Rattle.redo_spec.specs.Work.{rows_of, row_at}
 use Rattle.row_apply.specs.Found.{owner_of}
 use Rattle.row_apply.specs.Kept.{Slots, Owners, row_key, unique_key, slot_at, owner_at, indexed_at, IsLive, AreSlots, AreIndexed, OneLive, rows_seen}
-use Rattle.row_apply.specs.KeptIn.{slots_of, owners_of, indexed_of}
+use Rattle.row_apply.specs.KeptIn.{slots_of, owners_of, indexed_of, IsKept}
 use Rattle.row_apply.specs.Soundness.{AreSoundRows, HaveOneOwner}
-use Rattle.row_apply.specs.Adding.{rows_without, owner_unless, if_beneath, owns, slot_has, if_owns, written_owner, OwnsWritten, IsUnowned, IsReady}
+use Rattle.row_apply.specs.Adding.{rows_without, owner_unless, if_beneath, owns, slot_has, if_owns, written_owner, goes, OwnsWritten, IsUnowned, IsUnownedBut, HasIndex, IsReady}
 use Rattle.row_apply.proofs.Effects.{owner_of-in, sound_base}
 use Rattle.row_apply.proofs.Fitting.{three}
-use Rattle.row_apply.proofs.Owners.{owner_written, owner_nowhere, owner_beneath, found_live}
+use Rattle.row_apply.proofs.Owners.{unless_none, owner_written, owner_nowhere, owner_beneath, found_live}
 use Rattle.row_apply.proofs.Shapes.{has_at-is, is-has_at}
 use Rattle.row_apply.proofs.Slots.{over, find_after, to_T}
 
@@ -114,6 +114,28 @@ untold es owners indexed t key columns was at same some s full none k row live v
     live v in
     cc
 
+-- no written row that stays has a unique value, where the index knows of none but the one that goes
+module _ (w : Written) (t : TableRow) (key : Key) (columns : List ℕ) (gone : Option (List Value)) (kept : IsKept w)
+    (at : HasIndex w t) (same : key.table ≡ t.id) (some : 0 < key.index)
+    (s : slice_get t.keys key.index ≡ Some columns) (full : list_any is_null key.values ≡ false) where
+  pub unowned_none : written_owner (slots_of w) (owners_of w) key columns ≡ None →
+      IsUnownedBut (slots_of w) t.id gone columns key.values
+  unowned_none e k x live stays v =
+      untold (slots_of w) (owners_of w) (indexed_of w) t key columns kept.index at same some s full e k x
+      (subst (λ (id : ℕ). IsLive (slots_of w) id k x) (sym same) live) v
+
+  pub unowned_other : (owner : List Value) → written_owner (slots_of w) (owners_of w) key columns ≡ Some owner →
+      owner_unless gone owner ≡ None → IsUnownedBut (slots_of w) t.id gone columns key.values
+  unowned_other owner e none k x live stays v =
+      let there : IsLive (slots_of w) key.table k x = subst (λ (id : ℕ). IsLive (slots_of w) id k x) (sym same) live in
+      let told : written_owner (slots_of w) (owners_of w) key columns ≡ Some k =
+      owner_told (slots_of w) key columns (owner_at (owners_of w) key) k x
+      (indexed_unique (slots_of w) (owners_of w) (indexed_of w) t key.table key.index t.keys key.values columns kept.index at same
+      some s full k x there v) there v in
+      let is : owner ≡ k = cc in
+      let going : goes gone k ≡ true = ap (goes gone) (sym is) ∙ unless_none gone owner none in
+      cc
+
 -- ---- who else has a unique value
 
 column_list : (keys : List (List ℕ)) (index : ℕ) (columns : List ℕ) → slice_get keys index ≡ Some columns →
@@ -182,6 +204,25 @@ in_range : (keys : List (List ℕ)) (index : ℕ) (columns : List ℕ) → slice
 in_range [] index columns s = absurd (cc)
 in_range (k ∷ keys) zero columns s = omega arith
 in_range (k ∷ keys) (suc i) columns s = let rest = in_range keys i columns s in omega (arith, rest)
+
+found_key : (us : List (List ℕ)) (i : ℕ) (columns : List ℕ) → i < length us → columns ≡ get_or us i columns →
+    slice_get us i ≡ Some columns
+found_key [] i columns inside is = absurd (omega (arith, inside))
+found_key (u ∷ us) zero columns inside is = ap (λ c. Some c) (sym is)
+found_key (u ∷ us) (suc i) columns inside is = found_key us i columns (omega (arith, inside)) is
+
+behind_first : (keys : List (List ℕ)) (i : ℕ) (columns : List ℕ) → slice_get (drop 1 keys) i ≡ Some columns →
+    slice_get keys (suc i) ≡ Some columns
+behind_first [] i columns s = absurd (cc)
+behind_first (k ∷ keys) i columns s = s
+
+-- the unique keys count from 1
+pub unique_found : (keys us : List (List ℕ)) (index i : ℕ) (columns : List ℕ) → us ≡ drop 1 keys → index ≡ 1 + i → i < length us →
+    columns ≡ get_or us i columns → slice_get keys index ≡ Some columns
+unique_found keys us index i columns same number inside is =
+    let next : 1 + i ≡ suc i = omega arith in
+    ap (slice_get keys) (number ∙ next) ∙ behind_first keys i columns
+    (ap (λ ks. slice_get ks i) (sym same) ∙ found_key us i columns inside is)
 
 pub key_there : (ts : List TableRow) (t : TableRow) (table index : ℕ) (columns : List ℕ) → table_of ts t.id ≡ Some t →
     table ≡ t.id → slice_get t.keys index ≡ Some columns → IfSome (table_of ts table) (λ u. index < length u.keys)

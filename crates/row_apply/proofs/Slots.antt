@@ -114,8 +114,11 @@ pub sorted_after : (es : Slots) (id : ℕ) (rows : Rows) → T (entries.is_sorte
 sorted_after [] id rows h = h
 sorted_after (e ∷ es) id rows h =
     sorted_after es id (if e.0.table == id then write_row rows e.0.values e.1 else rows)
-    (elim (e.0.table == id) as (λ b. T (entries.is_sorted row_cmp (if b then write_row rows e.0.values e.1 else rows)))
-    [ true ↦ sorted_write e.0.values e.1 rows h | false ↦ h ])
+    (elim (e.0.table == id) as (λ b. T (entries.is_sorted row_cmp (if b then write_row rows e.0.values e.1 else rows))) [
+      | true ↦
+          sorted_write e.0.values e.1 rows h
+      | false ↦ h
+    ])
 
 -- what was written goes before what is beneath
 abbrev pub over : Option (Option (List Value)) → Option (List Value) → Option (List Value)

@@ -1,6 +1,6 @@
 -- What a change touches is written: each row key among its conflict keys, with the row that the tables have there.
-use Rattle.std.proofs.Common.{◌≡◌, ◌≢◌, ℕ, ◌+◌, ◌<◌, List, [], ◌∷◌, ◌++◌, map, refl, sym, ap, subst, ◌∙◌, Bool, true, false, cond, not, ◌&&◌, ◌==◌, nat_lt, length, arith, if◌then◌else◌, Option, Some, None, is_some}
-use Rattle.std.specs.Prelude.{IsSome}
+use Rattle.std.proofs.Common.{◌≡◌, ◌≢◌, ℕ, ◌+◌, ◌<◌, List, [], ◌∷◌, ◌++◌, map, refl, sym, ap, subst, ◌∙◌, Bool, true, false, cond, not, ◌&&◌, ◌||◌, ◌==◌, nat_lt, length, arith, if◌then◌else◌, Option, Some, None, is_some, Result, Ok, Err}
+use Rattle.std.specs.Prelude.{IsSome, OnOk, OnErr}
 use Rattle.std.specs.List.{AllByRecursion, flat_map, enumerate_from, list_any}
 use Rattle.std.specs.Ordering.{is_eq}
 use Rattle.std.specs.FinMap.Entries as entries
@@ -22,13 +22,14 @@ use Rattle.redo_spec.specs.Effect.{cell_values, with_cells, logged_key, differen
 use Rattle.redo_spec.specs.Tables.{Tables, primary_key, definitions_of}
 use Rattle.redo_spec.specs.Work.{rows_of, row_at}
 use Rattle.row_apply.specs.declared.writes.Write.{Write}
-use Rattle.row_apply.specs.Kept.{Slots, row_key, slot_at, AreSlots, Sets, Puts, AreWritten, keys_put}
-use Rattle.row_apply.specs.Overlaid.{overlaid, rows_after, written_at, WritesAll}
+use Rattle.row_apply.specs.declared.fault.EffectFault.{EffectFault}
+use Rattle.row_apply.specs.Kept.{Slots, row_key, slot_at, ArePrimary, AreSlots, Sets, Puts, SlotsOnly, AreWritten, keys_put}
+use Rattle.row_apply.specs.Overlaid.{overlaid, rows_after, written_at, WritesAll, WritesStay}
 use Rattle.row_apply.specs.Written.{writes_in}
 use Rattle.row_apply.proofs.Accepted.{accepted, holds}
 use Rattle.row_apply.proofs.Effects.{named_later, named_id}
 use Rattle.row_apply.proofs.Fitting.{both}
-use Rattle.row_apply.proofs.Orders.{key_self}
+use Rattle.row_apply.proofs.Orders.{key_is, key_self}
 use Rattle.row_apply.proofs.Slots.{over, find_after}
 use Rattle.row_apply.proofs.Untouched.{written_slot, logged_given, insert_given, update_given}
 
@@ -234,3 +235,43 @@ module _ (tables : Tables) (defs : List TableRow) (t : TableRow) (c : Change) (n
       (all_appended (λ (k : Key). k.table ≡ t.id) (keys_given t (cell_of c.old))
       (keys_given t (cell_of (after_op c.op c.old c.new))) (of_table t.id 0 (cell_of c.old) t.keys)
       (of_table t.id 0 (cell_of (after_op c.op c.old c.new)) t.keys)) written)
+
+-- ---- what was written stays so
+
+among : (keys : List Key) (new : Slots) (q : Key) → q.index ≡ 0 → list_any (λ k. is_eq (key_cmp k q)) keys ≡ true →
+    AreWritten keys new → is_some (slot_at new q) ≡ true
+among [] new q primary t written = absurd (cc)
+among (k ∷ ks) new q primary t written =
+    elim (is_eq (key_cmp k q)) as (λ b. is_eq (key_cmp k q) ≡ b → (b || list_any (λ k. is_eq (key_cmp k q)) ks) ≡ true →
+    is_some (slot_at new q) ≡ true) [
+      | true ↦ λ is h. let same : k ≡ q = key_is k q is in
+          subst (λ (p : Key). is_some (slot_at new p) ≡ true) same (written.0 (ap (λ (p : Key). p.index) same ∙ primary))
+      | false ↦ λ is h. among ks new q primary h written.1
+    ] refl t
+
+primary_there : (es : Slots) (q : Key) → ArePrimary es → is_some (slot_at es q) ≡ true → q.index ≡ 0
+primary_there [] q primary some = absurd (cc)
+primary_there (e ∷ es) q primary some =
+    elim (is_eq (key_cmp q e.0)) as (λ b. is_eq (key_cmp q e.0) ≡ b →
+    is_some (cond b (Some e.1) (slot_at es q)) ≡ true → q.index ≡ 0) [
+      | true ↦ λ is h. ap (λ (p : Key). p.index) (key_is q e.0 is) ∙ primary.0
+      | false ↦ λ is h. primary_there es q primary.1 h
+    ] refl some
+
+stays : (keys : List Key) (old new : Slots) → ArePrimary old → SlotsOnly keys old new → AreWritten keys new → (q : Key) →
+    is_some (slot_at old q) ≡ true → is_some (slot_at new q) ≡ true
+stays keys old new primary only written q some =
+    elim (list_any (λ k. is_eq (key_cmp k q)) keys) as (λ b. list_any (λ k. is_eq (key_cmp k q)) keys ≡ b →
+    is_some (slot_at new q) ≡ true) [
+      | true ↦ λ touched. among keys new q (primary_there old q primary some) touched written
+      | false ↦ λ untouched. ap is_some (only q untouched) ∙ some
+    ] refl
+
+pub writes_stay : {T : Type 0} (r : Result T EffectFault) (keys : List Key) (old new : Slots) → AreSlots old → AreSlots new →
+    OnErr r (new ≡ old) → OnOk r (SlotsOnly keys old new) → OnOk r (AreWritten keys new) →
+    WritesStay (writes_in old) (writes_in new)
+writes_stay (Ok x) keys old new o n same only written q some =
+    ap is_some (written_slot new q n.primary) ∙ stays keys old new o.primary only written q
+    (sym (ap is_some (written_slot old q o.primary)) ∙ some)
+writes_stay (Err fault) keys old new o n same only written q some =
+    subst (λ (es : Slots). is_some (written_at (writes_in es) q) ≡ true) (sym same) some

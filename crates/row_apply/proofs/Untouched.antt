@@ -190,8 +190,11 @@ joined_value : (xs ys : List (ℕ × Value)) (column : ℕ) (value : Value) → 
 joined_value [] ys column value e = e
 joined_value ((own, v) ∷ xs) ys column value e =
     elim (own == column) as (λ b. (if b then Some v else cell_of (xs ++ ys) column) ≡
-    Some (unwrap_or (if b then Some v else cell_of xs column) value))
-    [ true ↦ refl | false ↦ joined_value xs ys column value e ]
+    Some (unwrap_or (if b then Some v else cell_of xs column) value)) [
+      | true ↦ refl
+      | false ↦
+          joined_value xs ys column value e
+    ]
 
 -- a row that is as it was logged has the logged values
 logged_value : (row : List Value) (cells : List (ℕ × Value)) (column : ℕ) → difference row cells ≡ None →

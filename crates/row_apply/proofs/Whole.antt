@@ -9,10 +9,11 @@ use Rattle.redo_spec.specs.Dictionary.{table_of, primary_of, ids_rise, has_bad_k
 use Rattle.redo_spec.specs.Effect.{effect, effect_on}
 use Rattle.redo_spec.specs.Tables.{Tables, Table, definitions_of}
 use Rattle.row_apply.specs.declared.written.Written.{Written}
-use Rattle.row_apply.specs.Adding.{CanChange}
+use Rattle.row_apply.specs.declared.writes.Write.{Write}
+use Rattle.row_apply.specs.Adding.{CanChange, FindsSound}
 use Rattle.redo_spec.specs.Work.{rows_of}
 use Rattle.row_apply.specs.Kept.{Slots, AreSlots, ChangesOnly, rows_seen, table_seen}
-use Rattle.row_apply.specs.KeptIn.{slots_of, IsKept}
+use Rattle.row_apply.specs.KeptIn.{IsKept}
 use Rattle.row_apply.specs.Overlaid.{overlaid, rows_after, are_of}
 use Rattle.row_apply.specs.Soundness.{AreSound, AreSoundRows}
 use Rattle.row_apply.specs.Written.{writes_in}
@@ -31,18 +32,26 @@ module _ (tables : Tables) (defs : List TableRow) (t : TableRow) (c : Change) (d
   there : table_of (definitions_of tables) t.id ≡ Some t
   there = ap (table_of (definitions_of tables)) id ∙ named
 
-  pub can_change : (w : Written) → change_fault defs c ≡ None → AreSound tables →
-      AreSound (overlaid tables (writes_in (slots_of w))) → IsKept w → has_bad_keys t ≡ false →
+  pub can_change : (w : Written) → change_fault defs c ≡ None → IsKept w → has_bad_keys t ≡ false →
       is_key_columns (primary_of t) ≡ true → CanChange tables w t c
-  can_change w accepted base s kept keys form = record {
+  can_change w accepted kept keys form = record {
     there = there;
-    base_sound = base;
-    sound = sound_rows tables t t.id (writes_in (slots_of w)) there s;
     kept = kept;
     accepted = ap (λ o. fault_of_table o c) found ∙ accepted;
     keys = keys;
     form = form;
   }
+
+  pub finds_sound : (ws : List Write) (es : Slots) → writes_in es ≡ ws → AreSound tables → AreSound (overlaid tables ws) →
+      FindsSound tables es t
+  finds_sound ws es is base s = record {
+    base_sound = base;
+    sound = sound_rows tables t t.id (writes_in es) there (subst (λ (w : List Write). AreSound (overlaid tables w)) (sym is) s);
+  }
+
+  pub all_of : (old new : Slots) → AreSlots new → ChangesOnly t.id old new → are_of defs (writes_in old) ≡ true →
+      are_of defs (writes_in new) ≡ true
+  all_of old new n only of = still_of defs t old new (ap (λ ds. table_of ds t.id) (sym defined) ∙ there) n only of
 
   module _ (old new : Slots) (rising : ids_rise 0 defs ≡ true) (base : AreSound tables) (o : AreSlots old) (n : AreSlots new)
       (only : ChangesOnly t.id old new) where
@@ -71,6 +80,3 @@ module _ (tables : Tables) (defs : List TableRow) (t : TableRow) (c : Change) (d
     pub all_sound : AreSound (overlaid tables (writes_in old)) → AreSoundRows t (rows_seen tables new t) →
         AreSound (overlaid tables (writes_in new))
     all_sound s rows = sound_after tables 0 t t.id (writes_in old) (writes_in new) rise base there stay s rows
-
-    pub all_of : are_of defs (writes_in old) ≡ true → are_of defs (writes_in new) ≡ true
-    all_of of = still_of defs t old new (ap (λ ds. table_of ds t.id) (sym defined) ∙ there) n only of

@@ -1,6 +1,7 @@
 -- What stands in the way of a row that is added: rows without the one that it comes for, and owners of its unique values.
-use Rattle.std.specs.Prelude.{◌≡◌, ℕ, List, Bool, false, ◌&&◌, ◌==◌, Option, Some, None, is_some, if◌then◌else◌, IsTrue}
+use Rattle.std.specs.Prelude.{◌≡◌, ◌≢◌, ℕ, List, Bool, false, ◌&&◌, ◌==◌, Option, Some, None, is_some, if◌then◌else◌, IsTrue}
 use Rattle.std.specs.FinMap.Entries as entries
+use Rattle.std.specs.List.{list_any, AllByRecursion}
 use Rattle.std.specs.Ordering.{eq_by_cmp}
 use Rattle.rl_value.specs.declared.value.Value.{Value}
 use Rattle.rl_value.specs.declared.key.Key.{Key}
@@ -9,7 +10,8 @@ use Rattle.redo_vec.specs.Forms.{is_key_columns}
 use Rattle.redo_vec.specs.declared.table.TableRow.{TableRow}
 use Rattle.redo_vec.specs.declared.change.Change.{Change}
 use Rattle.redo_spec.specs.ChangeForm.{change_fault_in}
-use Rattle.redo_spec.specs.Dictionary.{table_of, primary_of, has_bad_keys}
+use Rattle.redo_spec.specs.ConflictKeys.{is_null}
+use Rattle.redo_spec.specs.Dictionary.{table_of, primary_of, uniques_of, has_bad_keys}
 use Rattle.redo_spec.specs.Tables.{Rows, Table, Tables, values_at, primary_key, definitions_of}
 use Rattle.row_apply.specs.declared.written.Written.{Written}
 use Rattle.redo_spec.specs.Work.{write_row}
@@ -82,7 +84,30 @@ if_owns es key columns (Some owner) = if owns es key columns owner then Some own
 abbrev pub written_owner : Slots → Owners → Key → List ℕ → Option (List Value)
 written_owner es owners key columns = if_owns es key columns (owner_at owners key)
 
+-- no written row that stays has these values
+abbrev pub IsUnownedBut : Slots → ℕ → Option (List Value) → List ℕ → List Value → Type 0
+IsUnownedBut es table gone columns values = (k x : List Value) → IsLive es table k x → goes gone k ≡ false →
+    values_at x columns ≢ values
+
+-- no written row that stays has the row's values in these columns, where they have no Null
+abbrev pub IsFreeAt : Slots → ℕ → Option (List Value) → List Value → List ℕ → Type 0
+IsFreeAt es table gone row columns = list_any is_null (values_at row columns) ≡ false →
+    IsUnownedBut es table gone columns (values_at row columns)
+
 -- ---- when the rows of a table can be changed
+
+-- the table's written rows are indexed by the keys that it has
+abbrev pub HasIndex : Written → TableRow → Type 0
+HasIndex w t = indexed_at (indexed_of w) t.id ≡ Some t.keys
+
+-- where the table is indexed, no written row that stays has one of the row's unique values
+abbrev pub IsFreeWritten : Written → TableRow → Option (List Value) → List Value → Type 0
+IsFreeWritten w t gone row = HasIndex w t → AllByRecursion (IsFreeAt (slots_of w) t.id gone row) (uniques_of t)
+
+-- what a change of the table finds is sound: the tables beneath, and the table's rows with those written in place
+pub record FindsSound (tables : Tables) (es : Slots) (t : TableRow) : Type 0 where
+  pub base_sound : AreSound tables
+  pub sound : AreSoundRows t (rows_seen tables es t)
 
 -- the table is there, its rows are sound, those beneath and those seen, and its unique values are indexed
 pub record IsReady (tables : Tables) (w : Written) (t : TableRow) : Type 0 where
@@ -90,13 +115,11 @@ pub record IsReady (tables : Tables) (w : Written) (t : TableRow) : Type 0 where
   pub base_sound : AreSound tables
   pub sound : AreSoundRows t (rows_seen tables (slots_of w) t)
   pub kept : IsKept w
-  pub indexed : indexed_at (indexed_of w) t.id ≡ Some t.keys
+  pub indexed : HasIndex w t
 
--- the table is there, has no bad keys and accepts the change, its rows are sound, and what was written is kept right
+-- the table is there, has no bad keys and accepts the change, and what was written is kept right
 pub record CanChange (tables : Tables) (w : Written) (t : TableRow) (c : Change) : Type 0 where
   pub there : table_of (definitions_of tables) t.id ≡ Some t
-  pub base_sound : AreSound tables
-  pub sound : AreSoundRows t (rows_seen tables (slots_of w) t)
   pub kept : IsKept w
   pub accepted : change_fault_in t c ≡ None
   pub keys : has_bad_keys t ≡ false

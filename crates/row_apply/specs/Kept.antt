@@ -1,7 +1,7 @@
 -- What an overlay keeps: its rows by their keys, and an index of their unique values.
 -- A table is indexed by the columns of its keys as they were when it was. An index says of each row that is there under
 -- which key it stands; it may also have values that no row has any more, so what it answers is looked at again.
-use Rattle.std.specs.Prelude.{◌≡◌, ℕ, ◌+◌, List, [], ◌∷◌, Bool, false, cond, drop, ◌==◌, if◌then◌else◌, Option, Some, None, IsSome, slice_get}
+use Rattle.std.specs.Prelude.{◌≡◌, ℕ, ◌+◌, List, [], ◌∷◌, Bool, false, true, cond, drop, ◌==◌, ◌&&◌, if◌then◌else◌, Option, Some, None, IsSome, slice_get}
 use Rattle.std.specs.List.{list_any, AllByRecursion}
 use Rattle.std.specs.List.Sorted.{IsStrictlySortedBy}
 use Rattle.std.specs.Ordering.{is_eq, nat_cmp}
@@ -92,6 +92,34 @@ index_slot t key (Some row) owners = index_by t.id row key 1 (uniques_of t) owne
 abbrev pub index_all : TableRow → Slots → Owners → Owners
 index_all t [] owners = owners
 index_all t (e ∷ es) owners = index_all t es (if e.0.table == t.id then index_slot t e.0 e.1 owners else owners)
+
+-- ---- whether each value leads to its row
+
+-- the owner is there, and it is this key
+abbrev pub is_owner : Key → Option Key → Bool
+is_owner key None = false
+is_owner key (Some owner) = is_eq (key_cmp owner key)
+
+-- the row's value in these columns leads to its key, or has a Null in it
+abbrev pub leads_at : Owners → ℕ → List Value → Key → ℕ → List ℕ → Bool
+leads_at owners table row key index columns =
+    let values = values_at row columns in
+    if list_any is_null values then true else is_owner key (owner_at owners (unique_key table index values))
+
+-- each unique value of the row does; its unique keys count from this number
+abbrev pub leads_by : Owners → ℕ → List Value → Key → ℕ → List (List ℕ) → Bool
+leads_by owners table row key index [] = true
+leads_by owners table row key index (columns ∷ more) = leads_at owners table row key index columns &&
+    leads_by owners table row key (index + 1) more
+
+abbrev pub leads_slot : TableRow → Owners → Key → Option (List Value) → Bool
+leads_slot t owners key None = true
+leads_slot t owners key (Some row) = leads_by owners t.id row key 1 (uniques_of t)
+
+-- each unique value of the table's rows among these does
+abbrev pub leads_all : TableRow → Owners → Slots → Bool
+leads_all t owners [] = true
+leads_all t owners (e ∷ es) = (if e.0.table == t.id then leads_slot t owners e.0 e.1 else true) && leads_all t owners es
 
 -- ---- changes of what was written
 

@@ -5,5 +5,6 @@ pub mod Written
 pub mod Outcomes
 pub mod Kept
 pub mod Adding
+pub mod Changes
 pub mod Values
 pub mod KeptIn

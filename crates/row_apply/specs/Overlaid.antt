@@ -1,6 +1,6 @@
 -- Written rows in place of those beneath: the tables after a list of writes, each of which puts a row in the place of the
 -- one with its primary key, or takes that one away. This project's own.
-use Rattle.std.specs.Prelude.{◌≡◌, ℕ, List, [], ◌∷◌, Bool, false, map, ◌==◌, if◌then◌else◌, Option, Some, is_some}
+use Rattle.std.specs.Prelude.{◌≡◌, ℕ, List, [], ◌∷◌, Bool, false, map, ◌==◌, if◌then◌else◌, Option, Some, IsSome, is_some}
 use Rattle.std.specs.List.{find, list_all, list_any, AllByRecursion}
 use Rattle.std.specs.Option.{option_map}
 use Rattle.std.specs.Ordering.{is_eq}
@@ -45,6 +45,10 @@ written_at ws q = option_map (λ w. w.row) (find (λ w. is_eq (key_cmp (written_
 -- what was written under other keys than these is as it was
 abbrev pub WritesOnly : List Key → List Write → List Write → Type 0
 WritesOnly keys old new = (q : Key) → list_any (λ k. is_eq (key_cmp k q)) keys ≡ false → written_at new q ≡ written_at old q
+
+-- each row key that was written still is
+abbrev pub WritesStay : List Write → List Write → Type 0
+WritesStay old new = (q : Key) → IsSome (written_at old q) → IsSome (written_at new q)
 
 -- each row key among these was written: there stands what the tables have there, the row or that it is gone
 abbrev pub WritesAll : List Key → Tables → List Write → Type 0

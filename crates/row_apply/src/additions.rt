@@ -7,11 +7,11 @@ ghost use Rattle.redo_spec.specs.Dictionary.{table_of};
 ghost use Rattle.redo_spec.specs.Effect.{add_row};
 ghost use Rattle.redo_spec.specs.Tables.{primary_key, definitions_of};
 ghost use Rattle.rl_value.specs.Order.{row_cmp};
-ghost use Rattle.row_apply.specs.Adding.{rows_without, values_of, goes, table_without, table_with_row, IsReady};
+ghost use Rattle.row_apply.specs.Adding.{rows_without, values_of, goes, table_without, table_with_row, FindsSound, IsFreeWritten, IsReady};
 ghost use Rattle.row_apply.specs.Kept.{row_key, rows_seen, table_seen, ChangesOnly, SlotsOnly, AreWritten, keys_put, IsPrimaryOf};
 ghost use Rattle.row_apply.specs.KeptIn.{slots_of, IsKept};
 ghost use Rattle.row_apply.specs.Outcomes.{OnMiss};
-ghost use Rattle.row_apply.specs.Soundness.{AreSound, AreSoundRows};
+ghost use Rattle.row_apply.specs.Soundness.{AreSoundRows};
 
 use crate::fault::EffectFault;
 use crate::key_values::primary_key;
@@ -40,7 +40,8 @@ fn exists<R: Rows>(
     gone: &Option<Key>,
     key: &Key,
 ) -> bool
-    requires ready { IsReady (R.tables base.now) over.now table.now }
+    requires there { table_of (definitions_of (R.tables base.now)) table.now.id ≡ Some table.now }
+    requires kept { IsKept over.now }
     requires key { key.now ≡ row_key table.now.id key.now.values }
     ensures { result ≡ is_some (entries.find row_cmp key.now.values
         (rows_without (values_of gone.now) (rows_seen (R.tables base.now) (slots_of over.now) table.now))) }
@@ -59,12 +60,16 @@ fn free_key<R: Rows>(
     gone: &Option<Key>,
     row: &Row,
 ) -> Result<Key, EffectFault>
-    requires ready { IsReady (R.tables base.now) over.now table.now }
+    requires there { table_of (definitions_of (R.tables base.now)) table.now.id ≡ Some table.now }
+    requires kept { IsKept over.now }
     ensures key { IfOk result (λ key. key ≡ row_key table.now.id (primary_key table.now row.now)) }
-    ensures added { OnOk result (add_row (table_without (values_of gone.now) (R.tables base.now) (slots_of over.now) table.now)
-        row.now ≡ Ok (table_with_row (values_of gone.now) (R.tables base.now) (slots_of over.now) table.now row.now)) }
-    ensures miss { OnMiss result (λ miss. add_row (table_without (values_of gone.now) (R.tables base.now) (slots_of over.now)
-        table.now) row.now ≡ Err miss) }
+    ensures alone { OnOk result (IsFreeWritten over.now table.now (values_of gone.now) row.now) }
+    ensures added { IsReady (R.tables base.now) over.now table.now →
+        OnOk result (add_row (table_without (values_of gone.now) (R.tables base.now) (slots_of over.now) table.now) row.now ≡
+        Ok (table_with_row (values_of gone.now) (R.tables base.now) (slots_of over.now) table.now row.now)) }
+    ensures miss { IsReady (R.tables base.now) over.now table.now →
+        OnMiss result (λ miss. add_row (table_without (values_of gone.now) (R.tables base.now) (slots_of over.now) table.now)
+        row.now ≡ Err miss) }
 {
     let Ok(values) = primary_key(over.alloc, table, row) else {
         return Err(EffectFault::Memory);
@@ -90,15 +95,14 @@ pub fn add<R: Rows>(
     row: Row,
 ) -> Result<(), EffectFault>
     requires there { table_of (definitions_of (R.tables base.now)) table.now.id ≡ Some table.now }
-    requires base_sound { AreSound (R.tables base.now) }
-    requires sound { AreSoundRows table.now (rows_seen (R.tables base.now) (slots_of over.old) table.now) }
     requires kept { IsKept over.old }
     requires gone { IsPrimaryOf table.now.id gone }
-    requires fits { IsTrue (is_row_of table.now.columns row) }
-    ensures done { OnOk result (add_row (table_without (values_of gone) (R.tables base.now) (slots_of over.old) table.now) row ≡
+    ensures done { FindsSound (R.tables base.now) (slots_of over.old) table.now →
+        OnOk result (add_row (table_without (values_of gone) (R.tables base.now) (slots_of over.old) table.now) row ≡
         Ok (table_seen (R.tables base.now) (slots_of over.new) table.now)) }
-    ensures miss { OnMiss result (λ miss. add_row (table_without (values_of gone) (R.tables base.now) (slots_of over.old)
-        table.now) row ≡ Err miss) }
+    ensures miss { FindsSound (R.tables base.now) (slots_of over.old) table.now →
+        OnMiss result (λ miss. add_row (table_without (values_of gone) (R.tables base.now) (slots_of over.old) table.now)
+        row ≡ Err miss) }
     ensures unchanged { OnErr result (slots_of over.new ≡ slots_of over.old) }
     ensures kept { IsKept over.new }
     ensures others { ChangesOnly table.now.id (slots_of over.old) (slots_of over.new) }
@@ -106,7 +110,8 @@ pub fn add<R: Rows>(
         (slots_of over.new)) }
     ensures written { OnOk result (AreWritten (keys_put gone (row_key table.now.id (primary_key table.now row)))
         (slots_of over.new)) }
-    ensures sound { AreSoundRows table.now (rows_seen (R.tables base.now) (slots_of over.new) table.now) }
+    ensures sound { FindsSound (R.tables base.now) (slots_of over.old) table.now → IsTrue (is_row_of table.now.columns row) →
+        AreSoundRows table.now (rows_seen (R.tables base.now) (slots_of over.new) table.now) }
 {
     match over.index_table(table) {
         Ok(()) => {}

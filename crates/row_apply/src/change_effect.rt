@@ -4,18 +4,18 @@
 //! new primary key; then a row with a unique value. The row that an update takes away is never in its own way.
 
 ghost use Rattle.std.specs.Prelude.{◌≡◌, ◌≢◌, ◌<◌, false, Ok, Err, None, Some, Result, OnOk, OnErr, IfOk, IsTrue, length, is_some, true};
-ghost use Rattle.redo_spec.specs.ChangeForm.{change_fault, change_fault_in, is_row_of};
-ghost use Rattle.redo_spec.specs.ConflictKeys.{conflict_keys, conflict_keys_in};
+ghost use Rattle.redo_spec.specs.ChangeForm.{change_fault, change_fault_in};
+ghost use Rattle.redo_spec.specs.ConflictKeys.{conflict_keys};
 ghost use Rattle.redo_spec.specs.Dictionary.{has_bad_keys};
-ghost use Rattle.redo_spec.specs.Effect.{effect as effect_of, effect_on, take_row, difference, logged_key, with_cells, cell_values};
+ghost use Rattle.redo_spec.specs.Effect.{effect as effect_of, logged_key};
 ghost use Rattle.redo_spec.specs.Tables.{definitions_of};
 ghost use Rattle.redo_vec.specs.declared.change.Op.TheVariants.{Insert, Update, Delete};
 ghost use Rattle.row_apply.specs.Adding.{CanChange};
-ghost use Rattle.row_apply.specs.Kept.{row_key, rows_seen, table_seen, ChangesOnly, SlotsOnly, AreWritten};
-ghost use Rattle.row_apply.specs.KeptIn.{slots_of, IsKept};
-ghost use Rattle.row_apply.specs.Overlaid.{overlaid, are_of, WritesOnly, WritesAll};
+ghost use Rattle.row_apply.specs.Changes.{Changes};
+ghost use Rattle.row_apply.specs.Kept.{row_key};
+ghost use Rattle.row_apply.specs.Overlaid.{overlaid, are_of, WritesOnly, WritesAll, WritesStay};
 ghost use Rattle.row_apply.specs.Outcomes.{OnMiss};
-ghost use Rattle.row_apply.specs.Soundness.{AreSound, AreSoundRows};
+ghost use Rattle.row_apply.specs.Soundness.{AreSound};
 
 use crate::additions::add;
 use crate::fault::EffectFault;
@@ -36,16 +36,7 @@ fn insert<R: Rows>(
 ) -> Result<(), EffectFault>
     requires can { CanChange (R.tables base.now) over.old table.now change.now }
     requires op { change.now.op ≡ Insert }
-    ensures done { OnOk result (effect_on (table_seen (R.tables base.now) (slots_of over.old) table.now) Insert change.now.old
-        change.now.new ≡ Ok (table_seen (R.tables base.now) (slots_of over.new) table.now)) }
-    ensures miss { OnMiss result (λ miss. effect_on (table_seen (R.tables base.now) (slots_of over.old) table.now) Insert
-        change.now.old change.now.new ≡ Err miss) }
-    ensures unchanged { OnErr result (slots_of over.new ≡ slots_of over.old) }
-    ensures kept { IsKept over.new }
-    ensures others { ChangesOnly table.now.id (slots_of over.old) (slots_of over.new) }
-    ensures only { OnOk result (SlotsOnly (conflict_keys_in table.now change.now) (slots_of over.old) (slots_of over.new)) }
-    ensures written { OnOk result (AreWritten (conflict_keys_in table.now change.now) (slots_of over.new)) }
-    ensures sound { AreSoundRows table.now (rows_seen (R.tables base.now) (slots_of over.new) table.now) }
+    ensures changes { Changes (R.tables base.now) over.old over.new table.now change.now Insert result }
 {
     // The cells rise by their columns, so those of all columns are the row in its order.
     let _cells = change.new.cells();
@@ -79,16 +70,7 @@ fn update<R: Rows>(
     requires can { CanChange (R.tables base.now) over.old table.now change.now }
     requires op { change.now.op ≢ Insert }
     requires update { change.now.op ≡ Update }
-    ensures done { OnOk result (effect_on (table_seen (R.tables base.now) (slots_of over.old) table.now) Update change.now.old
-        change.now.new ≡ Ok (table_seen (R.tables base.now) (slots_of over.new) table.now)) }
-    ensures miss { OnMiss result (λ miss. effect_on (table_seen (R.tables base.now) (slots_of over.old) table.now) Update
-        change.now.old change.now.new ≡ Err miss) }
-    ensures unchanged { OnErr result (slots_of over.new ≡ slots_of over.old) }
-    ensures kept { IsKept over.new }
-    ensures others { ChangesOnly table.now.id (slots_of over.old) (slots_of over.new) }
-    ensures only { OnOk result (SlotsOnly (conflict_keys_in table.now change.now) (slots_of over.old) (slots_of over.new)) }
-    ensures written { OnOk result (AreWritten (conflict_keys_in table.now change.now) (slots_of over.new)) }
-    ensures sound { AreSoundRows table.now (rows_seen (R.tables base.now) (slots_of over.new) table.now) }
+    ensures changes { Changes (R.tables base.now) over.old over.new table.now change.now Update result }
 {
     let Ok(key) = old_primary_key(over, table, change) else {
         return Err(EffectFault::Memory);
@@ -112,16 +94,7 @@ fn delete<R: Rows>(
     requires can { CanChange (R.tables base.now) over.old table.now change.now }
     requires op { change.now.op ≢ Insert }
     requires delete { change.now.op ≡ Delete }
-    ensures done { OnOk result (effect_on (table_seen (R.tables base.now) (slots_of over.old) table.now) Delete change.now.old
-        change.now.new ≡ Ok (table_seen (R.tables base.now) (slots_of over.new) table.now)) }
-    ensures miss { OnMiss result (λ miss. effect_on (table_seen (R.tables base.now) (slots_of over.old) table.now) Delete
-        change.now.old change.now.new ≡ Err miss) }
-    ensures unchanged { OnErr result (slots_of over.new ≡ slots_of over.old) }
-    ensures kept { IsKept over.new }
-    ensures others { ChangesOnly table.now.id (slots_of over.old) (slots_of over.new) }
-    ensures only { OnOk result (SlotsOnly (conflict_keys_in table.now change.now) (slots_of over.old) (slots_of over.new)) }
-    ensures written { OnOk result (AreWritten (conflict_keys_in table.now change.now) (slots_of over.new)) }
-    ensures sound { AreSoundRows table.now (rows_seen (R.tables base.now) (slots_of over.new) table.now) }
+    ensures changes { Changes (R.tables base.now) over.old over.new table.now change.now Delete result }
 {
     let Ok(key) = old_primary_key(over, table, change) else {
         return Err(EffectFault::Memory);
@@ -143,16 +116,7 @@ fn change_rows<R: Rows>(
     change: &Change,
 ) -> Result<(), EffectFault>
     requires can { CanChange (R.tables base.now) over.old table.now change.now }
-    ensures done { OnOk result (effect_on (table_seen (R.tables base.now) (slots_of over.old) table.now) change.now.op
-        change.now.old change.now.new ≡ Ok (table_seen (R.tables base.now) (slots_of over.new) table.now)) }
-    ensures miss { OnMiss result (λ miss. effect_on (table_seen (R.tables base.now) (slots_of over.old) table.now) change.now.op
-        change.now.old change.now.new ≡ Err miss) }
-    ensures unchanged { OnErr result (slots_of over.new ≡ slots_of over.old) }
-    ensures kept { IsKept over.new }
-    ensures others { ChangesOnly table.now.id (slots_of over.old) (slots_of over.new) }
-    ensures only { OnOk result (SlotsOnly (conflict_keys_in table.now change.now) (slots_of over.old) (slots_of over.new)) }
-    ensures written { OnOk result (AreWritten (conflict_keys_in table.now change.now) (slots_of over.new)) }
-    ensures sound { AreSoundRows table.now (rows_seen (R.tables base.now) (slots_of over.new) table.now) }
+    ensures changes { Changes (R.tables base.now) over.old over.new table.now change.now change.now.op result }
 {
     match change.op {
         Op::Insert => insert(base, over, table, change),
@@ -162,8 +126,9 @@ fn change_rows<R: Rows>(
 }
 
 /// Does the change to the rows of the base with those of the overlay in place. The overlay takes what it writes, and the
-/// base stays as it is. The cost is logarithmic in the rows, but for the first change of a table in an overlay, a snapshot, or
-/// after want of memory: it looks at all written rows.
+/// base stays as it is. Where the base, or the base with the overlay in place, isn't sound, the answer may be any, but the
+/// overlay still takes no more than the change's own row keys. The cost is logarithmic in the rows, but for the first change
+/// of a table in an overlay, a snapshot, or after running out of memory: it looks at all written rows.
 pub fn effect<R: Rows>(
     base: &R,
     dict: &Dict,
@@ -172,13 +137,14 @@ pub fn effect<R: Rows>(
 ) -> Result<(), EffectFault>
     requires definitions { definitions_of (R.tables base.now) ≡ dict.now.tables }
     requires accepted { change_fault dict.now.tables change.now ≡ None }
-    requires base_sound { AreSound (R.tables base.now) }
-    requires sound { AreSound (overlaid (R.tables base.now) over.old) }
-    ensures done { OnOk result (effect_of (overlaid (R.tables base.now) over.old) change.now ≡
-        Ok (overlaid (R.tables base.now) over.new)) }
-    ensures miss { OnMiss result (λ miss. effect_of (overlaid (R.tables base.now) over.old) change.now ≡ Err miss) }
+    ensures done { AreSound (R.tables base.now) → AreSound (overlaid (R.tables base.now) over.old) →
+        OnOk result (effect_of (overlaid (R.tables base.now) over.old) change.now ≡ Ok (overlaid (R.tables base.now) over.new)) }
+    ensures miss { AreSound (R.tables base.now) → AreSound (overlaid (R.tables base.now) over.old) →
+        OnMiss result (λ miss. effect_of (overlaid (R.tables base.now) over.old) change.now ≡ Err miss) }
+    ensures sound { AreSound (R.tables base.now) → AreSound (overlaid (R.tables base.now) over.old) →
+        AreSound (overlaid (R.tables base.now) over.new) }
     ensures unchanged { OnErr result (over.new ≡ over.old) }
-    ensures sound { AreSound (overlaid (R.tables base.now) over.new) }
+    ensures grows { WritesStay over.old over.new }
     ensures of_tables { IsTrue (are_of dict.now.tables over.old) → IsTrue (are_of dict.now.tables over.new) }
     ensures only { OnOk result (WritesOnly (conflict_keys dict.now.tables change.now) over.old over.new) }
     ensures written { OnOk result (WritesAll (conflict_keys dict.now.tables change.now)

@@ -1,8 +1,8 @@
 //! The index of unique values: which row has one.
 
-ghost use Rattle.std.specs.Prelude.{◌≡◌, ◌<◌, ◌+◌, length, OnOk, IsTrue, if◌then◌else◌, ◌==◌};
+ghost use Rattle.std.specs.Prelude.{◌≡◌, ◌<◌, ◌+◌, length, IfOk, OnOk, IsTrue, if◌then◌else◌, ◌==◌, true};
 ghost use Rattle.redo_spec.specs.Dictionary.{uniques_of};
-ghost use Rattle.row_apply.specs.Kept.{index_at, index_by, index_slot, index_all, OwnersOnly};
+ghost use Rattle.row_apply.specs.Kept.{index_at, index_by, index_slot, index_all, leads_at, leads_by, leads_slot, leads_all, OwnersOnly};
 
 use crate::key_values::{has_null, key_row, unique_keys};
 use redo_vec::{KeyColumns, KeyLists, TableRow};
@@ -97,6 +97,90 @@ pub fn index_rows(
         index_entry(alloc, owners, table, key, slot)?;
     }
     Ok(())
+}
+
+fn value_leads(
+    alloc: Global,
+    owners: &BTreeMap<Key, Key>,
+    table: u32,
+    index: u8,
+    columns: &KeyColumns,
+    key: &Key,
+    row: &Row,
+) -> Result<bool, NoMemory>
+    ensures { IfOk result (λ leads. leads ≡ leads_at owners.now.entries table row.now key.now index columns.now) }
+{
+    let values = key_row(alloc, row, columns)?;
+    if has_null(values.values()) {
+        return Ok(true);
+    }
+    let unique = Key {
+        table,
+        index,
+        values,
+    };
+    match owners.get(&unique) {
+        None => Ok(false),
+        Some(owner) => Ok(owner == key),
+    }
+}
+
+fn row_leads(
+    alloc: Global,
+    owners: &BTreeMap<Key, Key>,
+    table: &TableRow,
+    key: &Key,
+    row: &Row,
+) -> Result<bool, NoMemory>
+    ensures { IfOk result (λ leads. leads ≡ leads_by owners.now.entries table.now.id row.now key.now 1 (uniques_of table.now)) }
+{
+    let id = table.id;
+    let mut keys = unique_keys(table);
+    let mut index: u8 = 1;
+    while let [columns, others @ ..] = keys {
+        if !value_leads(alloc, owners, id, index, columns, key, row)? {
+            return Ok(false);
+        }
+        keys = others;
+        index += 1;
+    }
+    Ok(true)
+}
+
+fn entry_leads(
+    alloc: Global,
+    owners: &BTreeMap<Key, Key>,
+    table: &TableRow,
+    key: &Key,
+    slot: &Option<Row>,
+) -> Result<bool, NoMemory>
+    ensures { IfOk result (λ leads. leads ≡ (if key.now.table == table.now.id then leads_slot table.now owners.now.entries key.now
+        slot.now else true)) }
+{
+    if key.table != table.id {
+        return Ok(true);
+    }
+    match slot {
+        None => Ok(true),
+        Some(row) => row_leads(alloc, owners, table, key, row),
+    }
+}
+
+/// Whether each unique value of the table's rows leads to its row. Where two rows have one value it cannot.
+pub fn rows_lead(
+    alloc: Global,
+    rows: &BTreeMap<Key, Option<Row>>,
+    owners: &BTreeMap<Key, Key>,
+    table: &TableRow,
+) -> Result<bool, NoMemory>
+    ensures { IfOk result (λ lead. lead ≡ leads_all table.now owners.now.entries rows.now.entries) }
+{
+    for (key, slot) in rows {
+        if !entry_leads(alloc, owners, table, key, slot)? {
+            return Ok(false);
+        }
+    }
+    Ok(true)
 }
 
 fn same_columns(columns: &[u8], others: &[u8]) -> bool

@@ -7,13 +7,13 @@ ghost use Rattle.std.specs.Prelude.{◌≡◌, ◌<◌, ◌+◌, ℕ, length, If
 ghost use Rattle.std.specs.List.{list_any, enumerate_from};
 ghost use Rattle.std.specs.Option.{option_copied};
 ghost use Rattle.redo_spec.specs.ConflictKeys.{is_null};
-ghost use Rattle.redo_spec.specs.Dictionary.{uniques_of};
+ghost use Rattle.redo_spec.specs.Dictionary.{table_of, uniques_of};
 ghost use Rattle.redo_spec.specs.Effect.{taken_at, taken_by};
-ghost use Rattle.redo_spec.specs.Tables.{owner_in, values_at};
+ghost use Rattle.redo_spec.specs.Tables.{definitions_of, owner_in, values_at};
 ghost use Rattle.rl_value.specs.declared.miss.Miss.TheVariants.{Taken};
-ghost use Rattle.row_apply.specs.Adding.{rows_without, values_of, owner_unless, if_beneath, owns, slot_has, written_owner, IsReady};
+ghost use Rattle.row_apply.specs.Adding.{rows_without, values_of, owner_unless, if_beneath, owns, slot_has, written_owner, HasIndex, IsFreeAt, IsFreeWritten, IsReady, IsUnownedBut};
 ghost use Rattle.row_apply.specs.Kept.{row_key, rows_seen};
-ghost use Rattle.row_apply.specs.KeptIn.{slots_of, owners_of};
+ghost use Rattle.row_apply.specs.KeptIn.{slots_of, owners_of, IsKept};
 ghost use Rattle.row_apply.specs.Outcomes.{OfMiss, OnMiss};
 
 use crate::fault::EffectFault;
@@ -111,13 +111,17 @@ fn other_owner<'a, R: Rows>(
     key: &Key,
     columns: &[u8],
 ) -> Result<Option<&'a Row>, NoMemory>
-    requires ready { IsReady (R.tables base.now) over.now table.now }
+    requires there { table_of (definitions_of (R.tables base.now)) table.now.id ≡ Some table.now }
+    requires kept { IsKept over.now }
     requires table { key.now.table ≡ table.now.id }
     requires unique { 0 < key.now.index }
     requires columns { slice_get table.now.keys key.now.index ≡ Some columns.now }
     requires filled { list_any is_null key.now.values ≡ false }
-    ensures { IfOk result (λ owner. option_copied owner ≡
-        owner_in (rows_without (values_of gone.now) (rows_seen (R.tables base.now) (slots_of over.now) table.now)) columns.now
+    ensures free { IfOk result (λ owner. option_copied owner ≡ None → HasIndex over.now table.now →
+        IsUnownedBut (slots_of over.now) table.now.id (values_of gone.now) columns.now key.now.values) }
+    ensures owner { IsReady (R.tables base.now) over.now table.now →
+        IfOk result (λ owner. option_copied owner ≡ owner_in
+        (rows_without (values_of gone.now) (rows_seen (R.tables base.now) (slots_of over.now) table.now)) columns.now
         key.now.values) }
 {
     match owner_written(over, key, columns) {
@@ -153,13 +157,18 @@ fn check_unique<R: Rows>(
     index: u8,
     columns: &KeyColumns,
 ) -> Result<(), EffectFault>
-    requires ready { IsReady (R.tables base.now) over.now table.now }
+    requires there { table_of (definitions_of (R.tables base.now)) table.now.id ≡ Some table.now }
+    requires kept { IsKept over.now }
     requires unique { 0 < index }
     requires columns { slice_get table.now.keys index ≡ Some columns.now }
-    ensures free { OnOk result (taken_at table.now (rows_without (values_of gone.now)
+    ensures alone { OnOk result (HasIndex over.now table.now →
+        IsFreeAt (slots_of over.now) table.now.id (values_of gone.now) row.now columns.now) }
+    ensures free { IsReady (R.tables base.now) over.now table.now →
+        OnOk result (taken_at table.now (rows_without (values_of gone.now)
         (rows_seen (R.tables base.now) (slots_of over.now) table.now)) index columns.now (values_at row.now columns.now) ≡ None) }
-    ensures taken { OnMiss result (λ miss. taken_at table.now
-        (rows_without (values_of gone.now) (rows_seen (R.tables base.now) (slots_of over.now) table.now)) index columns.now
+    ensures taken { IsReady (R.tables base.now) over.now table.now →
+        OnMiss result (λ miss. taken_at table.now (rows_without (values_of gone.now)
+        (rows_seen (R.tables base.now) (slots_of over.now) table.now)) index columns.now
         (values_at row.now columns.now) ≡ Some miss) }
 {
     let Ok(values) = key_row(over.alloc, row, columns) else {
@@ -188,18 +197,21 @@ pub fn check_uniques<R: Rows>(
     gone: &Option<Key>,
     row: &Row,
 ) -> Result<(), EffectFault>
-    requires ready { IsReady (R.tables base.now) over.now table.now }
-    ensures free { OnOk result (taken_by table.now (rows_without (values_of gone.now)
+    requires there { table_of (definitions_of (R.tables base.now)) table.now.id ≡ Some table.now }
+    requires kept { IsKept over.now }
+    ensures alone { OnOk result (IsFreeWritten over.now table.now (values_of gone.now) row.now) }
+    ensures free { IsReady (R.tables base.now) over.now table.now →
+        OnOk result (taken_by table.now (rows_without (values_of gone.now)
         (rows_seen (R.tables base.now) (slots_of over.now) table.now)) row.now (enumerate_from 1 (uniques_of table.now)) ≡ None) }
-    ensures taken { OnMiss result (λ miss. taken_by table.now
-        (rows_without (values_of gone.now) (rows_seen (R.tables base.now) (slots_of over.now) table.now)) row.now
+    ensures taken { IsReady (R.tables base.now) over.now table.now →
+        OnMiss result (λ miss. taken_by table.now (rows_without (values_of gone.now)
+        (rows_seen (R.tables base.now) (slots_of over.now) table.now)) row.now
         (enumerate_from 1 (uniques_of table.now)) ≡ Some miss) }
 {
-    let mut keys = unique_keys(table);
+    let keys = unique_keys(table);
     let mut index: u8 = 1;
-    while let [columns, others @ ..] = keys {
+    for columns in keys {
         check_unique(base, over, table, gone, row, index, columns)?;
-        keys = others;
         index += 1;
     }
     Ok(())

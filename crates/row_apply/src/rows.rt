@@ -24,11 +24,10 @@ pub trait Rows {
         ensures row { option_copied result ≡ row_at (tables self.now) key.now };
 
     /// The primary key of the row that has this value of a unique key; unique keys count from 1. The value has no
-    /// Null, and has one owner at most.
+    /// Null, and in sound tables it has one owner at most. Of others any answer will do.
     fn owner(&self, key: &Key) -> Option<&Row>
-        requires sound { AreSound (tables self.now) }
         requires unique { 0 < key.now.index }
         requires there { IfSome (table_of (definitions_of (tables self.now)) key.now.table) (λ t. key.now.index < length t.keys) }
         requires filled { list_any is_null key.now.values ≡ false }
-        ensures owner { option_copied result ≡ owner_of (tables self.now) key.now };
+        ensures owner { AreSound (tables self.now) → option_copied result ≡ owner_of (tables self.now) key.now };
 }

@@ -2,7 +2,8 @@
 //!
 //! A table is indexed once a change of it looks for owners. What the index has is true of each row that is there; it may
 //! have values that no row has any more, so what it answers is looked at again. Where memory wants in the middle of a
-//! write, the table is no longer taken as indexed, and its next change indexes it anew.
+//! write, the table is no longer taken as indexed, and its next change indexes it anew. Nor is a table taken as indexed two
+//! of whose written rows have one unique value: no change of sound tables leaves that.
 
 ghost use Rattle.std.specs.Prelude.{◌≡◌, ℕ, ◌<◌, ◌+◌, length, List, [], IfOk, OnOk, OnErr, IsSome, IsTrue, Option, Some, None, false, true, cond, drop, ◌==◌};
 ghost use Rattle.std.specs.List.Sorted.{IsStrictlySortedBy};
@@ -13,12 +14,13 @@ ghost use Rattle.rl_value.specs.declared.key.Key.{Key};
 ghost use Rattle.redo_spec.specs.ConflictKeys.{is_null};
 ghost use Rattle.redo_spec.specs.Dictionary.{uniques_of};
 ghost use Rattle.redo_spec.specs.Tables.{values_at};
+ghost use Rattle.row_apply.specs.Adding.{HasIndex};
 ghost use Rattle.row_apply.specs.Kept.{row_key, slot_at, owner_at, indexed_at, AreSlots, AreIndexed, Sets, Puts, IndexedOnly, OneLive, IsFreeAmong, IsPrimaryOf};
 ghost use Rattle.row_apply.specs.Written.{writes_in};
 ghost use Rattle.row_apply.specs.KeptIn.{slots_of, owners_of, indexed_of, IsKept};
 
 use crate::copies::{copied_rows, moved_writes};
-use crate::index::{index_row, index_rows, same_keys};
+use crate::index::{index_row, index_rows, rows_lead, same_keys};
 use crate::writes::Write;
 use redo_vec::{KeyLists, TableRow};
 use rl_value::{Key, NoMemory, Row};
@@ -85,11 +87,13 @@ impl Written {
         self.indexed.remove(&id)
     }
 
-    /// Indexes the table by the keys that it has, if it is not indexed so.
+    /// Indexes the table by the keys that it has, if it is not indexed so. Where two of its written rows have one unique value
+    /// it is left without an index.
     pub fn index_table(&mut self, table: &TableRow) -> Result<(), NoMemory>
         requires kept { IsKept self.old }
-        requires single { OneLive table.now (slots_of self.old) }
-        ensures indexed { OnOk result (indexed_at (indexed_of self.new) table.now.id ≡ Some table.now.keys) }
+        ensures indexed { OnOk result (OneLive table.now (slots_of self.old) → HasIndex self.new table.now) }
+        ensures marked { OnOk result ((keys : List (List ℕ)) → indexed_at (indexed_of self.new) table.now.id ≡ Some keys →
+            keys ≡ table.now.keys) }
         ensures kept { IsKept self.new }
         ensures slots { slots_of self.new ≡ slots_of self.old }
     {
@@ -98,6 +102,9 @@ impl Written {
         }
         self.unmark(table.id);
         index_rows(self.alloc, &self.rows, &mut self.owners, table)?;
+        if !rows_lead(self.alloc, &self.rows, &self.owners, table)? {
+            return Ok(());
+        }
         let keys = table.keys.copy()?;
         self.mark(table.id, keys)
     }
@@ -233,10 +240,11 @@ impl Written {
         row: Row,
     ) -> Result<(), NoMemory>
         requires kept { IsKept self.old }
-        requires indexed { indexed_at (indexed_of self.old) table.now.id ≡ Some table.now.keys }
+        requires marked { (keys : List (List ℕ)) → indexed_at (indexed_of self.old) table.now.id ≡ Some keys →
+            keys ≡ table.now.keys }
         requires key { key ≡ row_key table.now.id key.values }
         requires gone { IsPrimaryOf table.now.id gone }
-        requires free { IsFreeAmong table.now (slots_of self.old) gone row }
+        requires free { HasIndex self.old table.now → IsFreeAmong table.now (slots_of self.old) gone row }
         ensures put { OnOk result (Puts (slots_of self.old) (slots_of self.new) gone key row) }
         ensures kept { IsKept self.new }
         ensures unchanged { OnErr result (slots_of self.new ≡ slots_of self.old) }

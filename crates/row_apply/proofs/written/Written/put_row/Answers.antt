@@ -1,7 +1,6 @@
-use Rattle.std.proofs.Common.{sym, ◌∙◌, subst, ap}
-use Rattle.row_apply.specs.Kept.{Slots, Indexed, AreSlots, Puts, IndexedOnly, index_by}
+use Rattle.std.proofs.Common.{◌≡◌, ℕ, List, Some, sym, ◌∙◌, subst, ap}
+use Rattle.row_apply.specs.Kept.{Slots, Indexed, AreSlots, Puts, IndexedOnly, index_by, indexed_at}
 use Rattle.redo_spec.specs.Dictionary.{uniques_of}
-use Rattle.row_apply.proofs.Keeping.{found_keys}
 use Rattle.row_apply.proofs.Indexes.{index_put}
 use Rattle.row_apply.proofs.written.Written.put_row.Goals as goal
 
@@ -17,7 +16,7 @@ returns-clause-kept c =
       index = index_put t c.args.self.now.rows.entries c.mark_again.new.self.rows.entries c.args.self.now.owners.entries
           c.mark_again.new.self.owners.entries c.args.self.now.indexed.entries
           c.unmark-keys.new.self.indexed.entries c.mark_again.new.self.indexed.entries c.args.gone key row c.requires.kept.index
-          c.requires.indexed c.requires.key c.requires.gone c.requires.free
+          c.requires.key c.requires.gone c.requires.free
           (subst (λ (new : Slots). Puts c.args.self.now.rows.entries new c.args.gone key row)
           (sym c.mark_again.ensures.slots) puts)
           (c.mark_again.ensures.owners ∙ c.put.ensures.owners ∙ c.in_ok-index_row.ensures.indexed ∙
@@ -25,6 +24,9 @@ returns-clause-kept c =
           c.unmark-keys.ensures.others
           (subst (λ (was : Indexed). IndexedOnly t.id was c.mark_again.new.self.indexed.entries) c.put.ensures.indexed
           c.mark_again.ensures.others)
-          (λ found e. found_keys c.unmark-keys.result c.args.self.now.indexed.entries t.id t.keys found c.unmark-keys.ensures.was
-          c.requires.indexed (c.mark_again.ensures.only found e));
+          (λ found e.
+          let at : indexed_at c.args.self.now.indexed.entries t.id ≡ Some found =
+          sym c.unmark-keys.ensures.was ∙ c.mark_again.ensures.only found e in
+          let is : found ≡ t.keys = c.requires.marked found at in
+          (is, at ∙ ap (λ (keys : List (List ℕ)). Some keys) is));
     }
