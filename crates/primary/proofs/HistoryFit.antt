@@ -87,7 +87,8 @@ of_but x y (t ∷ ts) =
       | false ↦ λ apart.
           ap (λ us. cond (same_xid t.xid y) (t ∷ us) us) (of_but x y ts)
           ∙ elim (same_xid x y) as (λ b. same_xid x y ≡ b →
-          cond (same_xid t.xid y) (t ∷ cond b [] rest) (cond b [] rest) ≡ cond b [] (cond (same_xid t.xid y) (t ∷ rest) rest)) [
+          cond (same_xid t.xid y) (t ∷ cond b [] rest) (cond b [] rest) ≡
+          cond b [] (cond (same_xid t.xid y) (t ∷ rest) rest)) [
             | true ↦ λ is. ap (λ b. cond b (t ∷ []) []) (ap (λ z. same_xid t.xid z) (sym (same_are x y is)) ∙ apart)
             | false ↦ λ is. refl
           ] refl
@@ -131,8 +132,11 @@ ended_lives : (x : Xid) (ts : List Txn) (live after : OpenChanges) → Lives ts 
 ended_lives x ts live after l are = record {
   of = λ y.
       ap survivors_of (of_but x y ts)
-      ∙ elim (same_xid x y) as (λ b. survivors_of (cond b [] (of_xid y ts)) ≡ cond b [] (survivors_of (of_xid y ts)))
-      [ true ↦ refl | false ↦ refl ]
+      ∙ elim (same_xid x y) as (λ b. survivors_of (cond b [] (of_xid y ts)) ≡ cond b [] (survivors_of (of_xid y ts))) [
+        | true ↦
+            refl
+        | false ↦ refl
+      ]
       ∙ ap (λ ss. cond (same_xid x y) [] ss) (l.of y)
       ∙ listed_cond (same_xid x y) None (changes_of y live)
       ∙ ap option_to_list (sym (are y));

@@ -12,16 +12,13 @@ use Rattle.std.specs.FinMap.Entries as entries
 use Rattle.std.proofs.lemmas.Bool.Decides.{nat_tests}
 use Rattle.std.proofs.lemmas.Map.{keys-set_value, lookup-set_value, lookup-remove_entry}
 use Rattle.std.proofs.lemmas.Map.Keys.{IsDistinct-from_sorted}
+use Rattle.rl_value.specs.Order.{xid_cmp, xid_total}
 use Rattle.rl_value.specs.declared.xid.Xid.{Xid}
 use Rattle.redo_spec.specs.History.{Placed, same_xid}
-use Rattle.primary.specs.Progress.{xid_cmp, OpenChanges, changes_of, with_opened, without_closed, with_changes}
+use Rattle.primary.specs.Progress.{OpenChanges, changes_of, with_opened, without_closed, with_changes}
 use Rattle.primary.proofs.MapLemmas.{find_is_lookup, put_is_insert, sorted_is, is_sorted_by, where_is_remove, is_true, holds, left_true, right_true}
 
 -- ---- transaction ids
-
-pub xid_total : IsTotalOrder xid_cmp
-xid_total = then_total (on_total (λ x. x.usn) nat_cmp_total)
-    (then_total (on_total (λ x. x.slot) nat_cmp_total) (on_total (λ x. x.sqn) nat_cmp_total))
 
 tied_then : (o p : Ordering) → is_eq (ordering_then o p) ≡ (is_eq o && is_eq p)
 tied_then Less p = refl

@@ -8,6 +8,7 @@ use Rattle.std.specs.declared.cmp.Ordering.{Ordering}
 use Rattle.std.specs.Ordering.{nat_cmp, on, then_cmp}
 use Rattle.std.specs.Map.{lookup, remove_entry, set_value}
 use Rattle.std.specs.BTreeMap.{insert_entry, is_at}
+use Rattle.rl_value.specs.Order.{xid_cmp}
 use Rattle.rl_value.specs.declared.pos.Pos.{Pos}
 use Rattle.rl_value.specs.declared.xid.Xid.{Xid}
 use Rattle.rl_value.specs.declared.cause.LawFault.{LawFault}
@@ -28,10 +29,6 @@ use Rattle.redo_spec.specs.Law.{record_fault, dictionary_left}
 use Rattle.redo_spec.specs.Skips.{Skip, is_skipped}
 use Rattle.redo_spec.specs.Fold.{Folded, Missed, effects, stop_of_commit, named_by}
 use Rattle.row_apply.specs.Soundness.{AreSound}
-
--- transaction ids in order
-abbrev pub xid_cmp : Xid → Xid → Ordering
-xid_cmp = then_cmp (on (λ x. x.usn) nat_cmp) (then_cmp (on (λ x. x.slot) nat_cmp) (on (λ x. x.sqn) nat_cmp))
 
 -- the surviving changes of each open transaction, by its id
 abbrev pub OpenChanges : Type 0

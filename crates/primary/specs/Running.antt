@@ -3,6 +3,7 @@ use Rattle.std.specs.Prelude.{◌≡◌, ⊤, ℕ, List, [], true, false, Option
 use Rattle.std.specs.List.{AllByRecursion}
 use Rattle.std.specs.List.Sorted.{IsStrictlySortedBy}
 use Rattle.std.specs.Map.{keys_of}
+use Rattle.rl_value.specs.Order.{xid_cmp}
 use Rattle.rl_value.specs.declared.xid.Xid.{Xid}
 use Rattle.rl_value.specs.declared.verdict.Verdict.{Verdict}
 use Rattle.redo_vec.specs.declared.table.TableRow.{TableRow}
@@ -13,7 +14,7 @@ use Rattle.redo_spec.specs.Tables.{Tables, RowsById}
 use Rattle.redo_spec.specs.Fold.{Missed}
 use Rattle.redo_spec.specs.Tables.{assembled, row_count}
 use Rattle.row_apply.specs.Soundness.{AreSound}
-use Rattle.primary.specs.Progress.{OpenChanges, changes_of, xid_cmp, tables_shown, waiting_until, FoldState, Progress, Going, Ended, held_at}
+use Rattle.primary.specs.Progress.{OpenChanges, changes_of, tables_shown, waiting_until, FoldState, Progress, Going, Ended, held_at}
 use Rattle.primary.specs.Unique.{IsIndexed}
 use Rattle.primary.specs.declared.running.Running.{Running}
 use Rattle.primary.specs.declared.unique_index.UniqueIndex.{UniqueIndex}

@@ -64,10 +64,10 @@ impl<'a> Based<'a> {
         requires unique { 0 < key.now.index }
         requires inside { key.now.index < length table.now.keys }
         requires there { table_of self.now.dictionary.tables key.now.table ≡ Some table.now }
-        requires sound { AreSoundRows table.now (rows_by self.now.rows key.now.table) }
         requires filled { list_any is_null key.now.values ≡ false }
-        ensures owner { option_copied result ≡ owner_in (rows_by self.now.rows key.now.table)
-            (key_columns table.now key.now.index) key.now.values }
+        ensures owner { AreSoundRows table.now (rows_by self.now.rows key.now.table) →
+            option_copied result ≡ owner_in (rows_by self.now.rows key.now.table) (key_columns table.now key.now.index)
+            key.now.values }
     {
         let Some(primary) = self.index.lead(key) else {
             return None;

@@ -126,9 +126,9 @@ fn change_rows<R: Rows>(
 }
 
 /// Does the change to the rows of the base with those of the overlay in place. The overlay takes what it writes, and the
-/// base stays as it is. Where the base, or the base with the overlay in place, isn't sound, the answer may be any, but the
-/// overlay still takes no more than the change's own row keys. The cost is logarithmic in the rows, but for the first change
-/// of a table in an overlay, a snapshot, or after running out of memory: it looks at all written rows.
+/// base stays as it is. Where the base, or the base with the overlay in place, isn't sound, the change may be done or may
+/// miss, but it still writes no other rows than its own. The cost is logarithmic in the rows, but for the first change of a
+/// table in an overlay, a snapshot, or after want of memory: it looks at all written rows.
 pub fn effect<R: Rows>(
     base: &R,
     dict: &Dict,

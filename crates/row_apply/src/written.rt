@@ -103,6 +103,7 @@ impl Written {
         self.unmark(table.id);
         index_rows(self.alloc, &self.rows, &mut self.owners, table)?;
         if !rows_lead(self.alloc, &self.rows, &self.owners, table)? {
+            // Two written rows have one value, so the rows aren't sound, and an index of them can't be right.
             return Ok(());
         }
         let keys = table.keys.copy()?;

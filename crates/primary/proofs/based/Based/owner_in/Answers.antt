@@ -20,8 +20,8 @@ returns-in_default c =
     indexed_beneath below b c.self.inside.index.now t q.table c.self.view_is c.self.invariant c.requires.there in
     let of : q.table ≡ t.id = sym (table_id b.dictionary.tables q.table t c.requires.there) in
     record {
-      owner = sym (leads_nowhere t (rows_by b.rows q.table) c.self.inside.index.now q c.requires.sound indexed
-          of c.requires.unique c.requires.inside c.requires.filled
+      owner = λ sound. sym (leads_nowhere t (rows_by b.rows q.table) c.self.inside.index.now q sound indexed of c.requires.unique
+          c.requires.inside c.requires.filled
           (sym c.lead.ensures.found ∙ ap option_copied c.in_default.is));
     }
 
@@ -35,8 +35,8 @@ returns-in_default-get c =
     indexed_beneath below b c.self.inside.index.now t q.table c.self.view_is c.self.invariant c.requires.there in
     let of : q.table ≡ t.id = sym (table_id b.dictionary.tables q.table t c.requires.there) in
     record {
-      owner = sym (leads_to_none t (rows_by b.rows q.table) c.self.inside.index.now q c.in-Some.primary.now c.requires.sound
-          indexed of c.requires.unique c.requires.inside c.requires.filled
+      owner = λ sound. sym (leads_to_none t (rows_by b.rows q.table) c.self.inside.index.now q c.in-Some.primary.now sound indexed
+          of c.requires.unique c.requires.inside c.requires.filled
           (sym c.lead.ensures.found ∙ ap option_copied c.in-Some.is)
           (ap (λ (v : Beneath). find row_cmp c.in-Some.primary.now (rows_by v.rows q.table)) (sym c.self.view_is) ∙
           sym c.get.ensures.found ∙ ap option_copied c.in_default-get.is));
@@ -57,7 +57,7 @@ returns-then-has_values c =
     (λ i. eq_by_cmp row_cmp (values_at row (sym columns i)) (sym c.values.ensures.same i)) ∙ sym c.has_values.ensures.exact ∙
     c.if-has_values.true in
     record {
-      owner = sym (leads_to_owner t (rows_by b.rows q.table) q c.in-Some.primary.now row c.requires.sound c.requires.unique
+      owner = λ sound. sym (leads_to_owner t (rows_by b.rows q.table) q c.in-Some.primary.now row sound c.requires.unique
           c.requires.inside c.requires.filled
           (ap (λ (v : Beneath). find row_cmp c.in-Some.primary.now (rows_by v.rows q.table)) (sym c.self.view_is) ∙
           sym c.get.ensures.found ∙ ap option_copied c.in-Some-get.is) has);
@@ -82,7 +82,7 @@ returns c =
     (λ i. eq_by_cmp row_cmp (values_at row (sym columns i)) (sym c.values.ensures.same i)) ∙ sym c.has_values.ensures.exact ∙
     c.if-has_values.false in
     record {
-      owner = sym (leads_to_other t (rows_by b.rows q.table) c.self.inside.index.now q c.in-Some.primary.now row c.requires.sound
+      owner = λ sound. sym (leads_to_other t (rows_by b.rows q.table) c.self.inside.index.now q c.in-Some.primary.now row sound
           indexed of c.requires.unique c.requires.inside c.requires.filled
           (sym c.lead.ensures.found ∙ ap option_copied c.in-Some.is)
           (ap (λ (v : Beneath). find row_cmp c.in-Some.primary.now (rows_by v.rows q.table)) (sym c.self.view_is) ∙

@@ -13,7 +13,7 @@ returns-in-None c =
     let none : table_of b.dictionary.tables c.args.key.now.table ≡ None =
     ap (λ (v : Beneath). table_of v.dictionary.tables c.args.key.now.table) (sym c.self.view_is) ∙
     sym c.in-None.ensures.found in
-    record { owner = sym (owner_of_none b.dictionary.tables b.rows c.args.key.now none) }
+    record { owner = λ sound. sym (owner_of_none b.dictionary.tables b.rows c.args.key.now none) }
 
 pub owner_in-requires-clause-inside : goal.owner_in-requires-clause-inside
 owner_in-requires-clause-inside c =
@@ -26,18 +26,13 @@ owner_in-requires-clause-inside c =
     (definitions_assembled b.dictionary.tables b.rows) c.requires.there in
     inside_key (table_of b.dictionary.tables key.table) c.in-Some.table.now key.index at there
 
-pub owner_in-requires-clause-sound : goal.owner_in-requires-clause-sound
-owner_in-requires-clause-sound c =
-    let b = c.args.self.now in
-    let key = c.args.key.now in
-    let at : table_of b.dictionary.tables key.table ≡ Some c.in-Some.table.now =
-    ap (λ (v : Beneath). table_of v.dictionary.tables key.table) (sym c.self.view_is) ∙ sym c.in-Some.ensures.found in
-    sound_rows b.dictionary.tables b.rows key.table c.in-Some.table.now c.requires.sound at
-
 pub returns-in-Some : goal.returns-in-Some
 returns-in-Some c =
     let b = c.args.self.now in
     let key = c.args.key.now in
     let at : table_of b.dictionary.tables key.table ≡ Some c.in-Some.table.now =
     ap (λ (v : Beneath). table_of v.dictionary.tables key.table) (sym c.self.view_is) ∙ sym c.in-Some.ensures.found in
-    record { owner = c.owner_in.ensures.owner ∙ sym (owner_of_assembled b.dictionary.tables b.rows key c.in-Some.table.now at) }
+    record {
+      owner = λ sound. c.owner_in.ensures.owner (sound_rows b.dictionary.tables b.rows key.table c.in-Some.table.now sound
+          at) ∙ sym (owner_of_assembled b.dictionary.tables b.rows key c.in-Some.table.now at);
+    }
