@@ -12,7 +12,6 @@ mod words;
 
 ghost use Rattle.std.specs.Prelude.{◌≡◌};
 ghost use Rattle.std.specs.Process.{exit_status};
-ghost use Rattle.rl_ports.specs.Faults.{Rose};
 ghost use Rattle.standby.specs.Command.{command_of};
 ghost use Rattle.sqlapply.specs.Exit.{EndsWith};
 
@@ -54,7 +53,8 @@ fn run<I: Source, O: Sink, A: Archive>(
     archive: A,
 ) -> (ExitCode, A)
     ensures code { EndsWith (command_of words.now) (A.logs archive) (exit_status result.0) (O.written out.old) (O.written out.new)
-        (Rose (A.faults archive) (A.faults result.1)) (Rose (O.faults out.old) (O.faults out.new)) }
+        (record { failures_alone = A.counts_failures_alone; before = A.faults archive; now = A.faults result.1 })
+        (record { failures_alone = O.counts_failures_alone; before = O.faults out.old; now = O.faults out.new }) }
     ensures input { input.new ≡ input.old }
 {
     let Ended {

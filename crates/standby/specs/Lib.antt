@@ -1,5 +1,6 @@
 pub mod Command
 pub mod Answers
+pub mod Headline
 pub mod Devices
 pub mod Writing
 pub mod Printing

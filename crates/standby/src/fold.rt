@@ -2,7 +2,7 @@
 //!
 //! The whole text is built before its first byte is written. So a fold that is refused has written its last line alone.
 ghost use Rattle.std.specs.Prelude.{◌≡◌, ◌≤◌, ◌≢◌, ◌↔◌, IfOk, Err};
-ghost use Rattle.rl_ports.specs.Faults.{Rose, Told};
+ghost use Rattle.rl_ports.specs.Faults.{NoneCounted, Rose, Told};
 ghost use Rattle.standby.specs.Printout.{IsPrintoutOf, IsWritten, IsPrefixWritten};
 ghost use Rattle.standby.specs.declared.reading.FoldFault.TheVariants.{Failed as FoldFailed, Memory as FoldMemory};
 ghost use Rattle.standby.specs.Answers.{Comes, IsEnd, Prints, PrintsPrefix, SaysFault, fault_line, end_status};
@@ -71,6 +71,7 @@ fn answer<O: Sink>(out: &mut O, printout: Result<Printout, FoldFault>) -> Status
     ensures archive_fault { (result ≡ Status.ArchiveFault) ↔ (printout ≡ Err FoldFailed) }
     ensures memory { (result ≡ Status.Memory) ↔ (printout ≡ Err FoldMemory) }
     ensures sink_rose { result ≡ Status.SinkFault → Rose (O.faults out.old) (O.faults out.new) }
+    ensures sink_not_passed_over { IsEnd result → NoneCounted O.counts_failures_alone (O.faults out.old) (O.faults out.new) }
     ensures sink_fault { result ≡ Status.SinkFault → IsPrefixWritten printout (O.written out.old) (O.written out.new) }
     ensures last_line { SaysFault (fault_line result) (O.written out.old) (O.written out.new)
         (Rose (O.faults out.old) (O.faults out.new)) }
@@ -104,6 +105,10 @@ pub fn fold<O: Sink, A: Archive>(alloc: Global, seq: u32, out: &mut O, archive: 
     ensures usage { result.status ≢ Status.Usage }
     ensures not_built { result.status ≢ Status.NotBuilt }
     ensures archive_fault { result.status ≡ Status.ArchiveFault → Rose (A.faults archive) (A.faults result.archive) }
+    ensures archive_not_passed_over { result.status ≢ Status.ArchiveFault →
+        NoneCounted A.counts_failures_alone (A.faults archive) (A.faults result.archive) }
+    ensures sink_not_passed_over { IsEnd result.status →
+        NoneCounted O.counts_failures_alone (O.faults out.old) (O.faults out.new) }
     ensures sink_rose { result.status ≡ Status.SinkFault → Rose (O.faults out.old) (O.faults out.new) }
     ensures sink_fault { result.status ≡ Status.SinkFault → Told (A.logs archive)
         (λ logs. PrintsPrefix logs seq (O.written out.old) (O.written out.new)) }

@@ -3,7 +3,7 @@
 //! An absent log is a gap, and a refused header a malformed first record. The database is the one that the log's own header
 //! names; the log is then looked at for this database, and registered as the only one.
 ghost use Rattle.std.specs.Prelude.{◌≡◌, ◌≢◌, ◌≤◌, [], ◌∷◌, IfOk, Err};
-ghost use Rattle.rl_ports.specs.Faults.{Told, Rose};
+ghost use Rattle.rl_ports.specs.Faults.{NoneCounted, Told, Rose};
 ghost use Rattle.redo_spec.specs.Fold.{fold_of_redo};
 ghost use Rattle.redo_spec.specs.Redo.{fold_of_log};
 ghost use Rattle.rl_value.specs.declared.cause.Cause.TheVariants.{Head};
@@ -101,6 +101,8 @@ fn folded_ahead<A: Archive>(alloc: Global, seq: u32, base: Scn, reader: ReadSide
         (let redo = redo_ahead logs reader.registry reader.place in fold_of_redo seq base redo.entries redo.stop))) }
     ensures logs { A.logs result.archive ≡ A.logs reader.archive }
     ensures failed { result.folded ≡ Err FoldFailed → Rose (A.faults reader.archive) (A.faults result.archive) }
+    ensures none_passed_over { result.folded ≢ Err FoldFailed →
+        NoneCounted A.counts_failures_alone (A.faults reader.archive) (A.faults result.archive) }
     ensures count { A.faults reader.archive ≤ A.faults result.archive }
 {
     the_evaluator_folds();
@@ -130,6 +132,8 @@ fn folded_entry<A: Archive>(alloc: Global, entry: LogEntry, archive: A) -> Folde
         IfOk result.folded (λ folded. folded_of folded ≡ fold_of_log entry.head.seq (logs entry.head.seq))) }
     ensures logs { A.logs result.archive ≡ A.logs archive }
     ensures failed { result.folded ≡ Err FoldFailed → Rose (A.faults archive) (A.faults result.archive) }
+    ensures none_passed_over { result.folded ≢ Err FoldFailed →
+        NoneCounted A.counts_failures_alone (A.faults archive) (A.faults result.archive) }
     ensures count { A.faults archive ≤ A.faults result.archive }
 {
     the_reader_gives_the_redo();
@@ -166,6 +170,8 @@ fn seen<A: Archive>(archive: &mut A, seq: u32) -> Result<LogEntry, RegFault>
     ensures of { Told (A.logs archive.old) (λ logs. IfOk result (IsToldBy logs)) }
     ensures sequence { IfOk result (λ entry. entry.head.seq ≡ seq) }
     ensures failed { result ≡ Err ArchiveFaulted → Rose (A.faults archive.old) (A.faults archive.new) }
+    ensures none_passed_over { result ≢ Err ArchiveFaulted →
+        NoneCounted A.counts_failures_alone (A.faults archive.old) (A.faults archive.new) }
     ensures count { A.faults archive.old ≤ A.faults archive.new }
     ensures logs { A.logs archive.new ≡ A.logs archive.old }
 {
@@ -181,6 +187,8 @@ pub fn folded_log<A: Archive>(alloc: Global, seq: u32, archive: A) -> FoldedLog<
         IfOk result.folded (λ folded. folded_of folded ≡ fold_of_log seq (logs seq))) }
     ensures logs { A.logs result.archive ≡ A.logs archive }
     ensures failed { result.folded ≡ Err FoldFailed → Rose (A.faults archive) (A.faults result.archive) }
+    ensures none_passed_over { result.folded ≢ Err FoldFailed →
+        NoneCounted A.counts_failures_alone (A.faults archive) (A.faults result.archive) }
     ensures count { A.faults archive ≤ A.faults result.archive }
 {
     let mut archive = archive;

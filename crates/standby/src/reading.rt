@@ -3,8 +3,8 @@
 //! A record that doesn't decode ends the redo, and so does what the reading side tells behind the last one. Where the fold
 //! has ended before, by a bad record, a miss or the row limit, no more is read. No more of a log is held than the block that
 //! is read, the records that it completes, and up to 65,535 bytes of a record that is not whole.
-ghost use Rattle.std.specs.Prelude.{◌≡◌, ◌≤◌, ◌<◌, ◌+◌, ◌^◌, [], IfOk, OnOk, Err, None, Ok};
-ghost use Rattle.rl_ports.specs.Faults.{Told, Rose};
+ghost use Rattle.std.specs.Prelude.{◌≡◌, ◌≢◌, ◌≤◌, ◌<◌, ◌+◌, ◌^◌, [], IfOk, OnOk, Err, None, Ok};
+ghost use Rattle.rl_ports.specs.Faults.{NoneCounted, Told, Rose};
 ghost use Rattle.redo_vec.specs.Cutting.{first_record};
 ghost use Rattle.log_registry.specs.Registered.{AreToldBy};
 ghost use Rattle.redo_reader.specs.Ahead.{redo_ahead};
@@ -121,6 +121,8 @@ fn take_next<A: Archive>(
     ensures registry { reader.new.registry ≡ reader.old.registry }
     ensures logs { A.logs reader.new.archive ≡ A.logs reader.old.archive }
     ensures failed { result ≡ Err FoldFailed → Rose (A.faults reader.old.archive) (A.faults reader.new.archive) }
+    ensures none_passed_over { result ≢ Err FoldFailed →
+        NoneCounted A.counts_failures_alone (A.faults reader.old.archive) (A.faults reader.new.archive) }
     ensures count { A.faults reader.old.archive ≤ A.faults reader.new.archive }
 {
     match reader.cut()? {
@@ -147,6 +149,8 @@ pub fn take_all<A: Archive>(
         IfOk result (EndsAs (redo_ahead logs reader.old.registry reader.old.place) evaluator.old evaluator.new)) }
     ensures logs { A.logs reader.new.archive ≡ A.logs reader.old.archive }
     ensures failed { result ≡ Err FoldFailed → Rose (A.faults reader.old.archive) (A.faults reader.new.archive) }
+    ensures none_passed_over { result ≢ Err FoldFailed →
+        NoneCounted A.counts_failures_alone (A.faults reader.old.archive) (A.faults reader.new.archive) }
     ensures count { A.faults reader.old.archive ≤ A.faults reader.new.archive }
 {
     loop {

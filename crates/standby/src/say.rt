@@ -3,7 +3,7 @@
 //! What is written is always a prefix of the text. It ends early only where the sink's count of faults rose.
 ghost use Rattle.std.specs.Prelude.{◌≡◌, ◌≤◌, OnOk, OnErr};
 ghost use Rattle.std.specs.Io.KnownBytes.{Appends};
-ghost use Rattle.rl_ports.specs.Faults.{Rose};
+ghost use Rattle.rl_ports.specs.Faults.{NoneCounted, Rose};
 ghost use Rattle.standby.specs.Writing.{AppendsPrefix};
 
 use rl_ports::{Failed, Sink};
@@ -13,6 +13,7 @@ pub fn say<O: Sink>(out: &mut O, text: &[u8]) -> Result<(), Failed>
     ensures whole { OnOk result (Appends (O.written out.old) (O.written out.new) text.now) }
     ensures prefix { AppendsPrefix (O.written out.old) (O.written out.new) text.now
         (Rose (O.faults out.old) (O.faults out.new)) }
+    ensures none_passed_over { OnOk result (NoneCounted O.counts_failures_alone (O.faults out.old) (O.faults out.new)) }
     ensures failed { OnErr result (Rose (O.faults out.old) (O.faults out.new)) }
     ensures count { O.faults out.old ≤ O.faults out.new }
 {

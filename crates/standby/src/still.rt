@@ -1,12 +1,10 @@
 //! The top call that waits for nobody.
 //!
-//! The table of its answers, `specs/Answers.antt`, has a clause for each row.
+//! What it promises is `specs/Headline.antt`, in the words of the table of answers, `specs/Answers.antt`.
 //! So far `fold` alone is built; `run`, `mine` and `load` are answered NotBuilt.
-ghost use Rattle.std.specs.Prelude.{◌≡◌, ◌≤◌, ◌↔◌};
-ghost use Rattle.rl_ports.specs.Faults.{Rose};
+ghost use Rattle.std.specs.Prelude.{◌≡◌, ◌≤◌};
 ghost use Rattle.standby.specs.Command.{command_of};
-ghost use Rattle.standby.specs.declared.command.Command.TheVariants.{Later, Wrong};
-ghost use Rattle.standby.specs.Answers.{Comes, IsEnd, FoldsWhole, IsArchiveFault, IsSinkFault, SaysFault, fault_line};
+ghost use Rattle.standby.specs.Headline.{Claim};
 ghost use Rattle.standby.specs.Devices.{ComeBack};
 
 use crate::command::Command;
@@ -39,21 +37,10 @@ pub fn sqlapply_still<I: Source, O: Sink, A: Archive, S: Spill, K: Keeper>(
     ensures devices { ComeBack A.logs A.faults archive result.archive spill result.spill keeper result.keeper }
     ensures sink_count { O.faults out.old ≤ O.faults out.new }
 
-    // Each row of the table of answers. Memory has no cause.
-    ensures comes { Comes result.status }
-    ensures ends { IsEnd result.status →
-        FoldsWhole (command_of words.now) (A.logs archive) result.status (O.written out.old) (O.written out.new) }
-    ensures usage { (result.status ≡ Status.Usage) ↔ (command_of words.now ≡ Wrong) }
-    ensures not_built { (result.status ≡ Status.NotBuilt) ↔ (command_of words.now ≡ Later) }
-    ensures archive_fault { result.status ≡ Status.ArchiveFault →
-        IsArchiveFault (command_of words.now) (Rose (A.faults archive) (A.faults result.archive)) }
-    ensures sink_fault { result.status ≡ Status.SinkFault →
-        IsSinkFault (command_of words.now) (A.logs archive) (O.written out.old) (O.written out.new)
-        (Rose (O.faults out.old) (O.faults out.new)) }
-
-    // A status that ends the command at once is named in its one line, as far as the sink takes it.
-    ensures last_line { SaysFault (fault_line result.status) (O.written out.old) (O.written out.new)
-        (Rose (O.faults out.old) (O.faults out.new)) }
+    // How it ends, and what is written. Memory has no cause.
+    ensures claim { Claim (command_of words.now) (A.logs archive) result.status (O.written out.old) (O.written out.new)
+        (record { failures_alone = A.counts_failures_alone; before = A.faults archive; now = A.faults result.archive })
+        (record { failures_alone = O.counts_failures_alone; before = O.faults out.old; now = O.faults out.new }) }
 {
     match command(words) {
         Command::Fold(seq) => {

@@ -1,7 +1,7 @@
 //! Whole commands over small devices: ends of a fold but the row limit, all kinds of words, devices that fail.
 //!
 //! Expected lines and statuses come from the formats and the table of answers (docs/FORMATS.md, README.md).
-ghost use Rattle.std.specs.Prelude.{None, Some, false, refl};
+ghost use Rattle.std.specs.Prelude.{None, Some, true, false, refl};
 
 use crate::still::sqlapply_still;
 use crate::unused::Unused;
@@ -123,6 +123,8 @@ impl Archive for Shelf {
 
     ghost logs = { λ _. None };
 
+    ghost counts_failures_alone = { true };
+
     ghost faults = { λ shelf. shelf.faults };
 
     ghost telling = { λ _. refl };
@@ -161,6 +163,8 @@ struct Paper {
 impl Sink for Paper {
     ghost written = { λ paper. Some paper.bytes.items };
 
+    ghost counts_failures_alone = { true };
+
     ghost faults = { λ paper. paper.faults };
 
     fn write(&mut self, from: &[u8]) -> Result<usize, Failed> {
@@ -177,6 +181,8 @@ impl Sink for Paper {
 // A source that no command calls so far.
 impl Source for Unused {
     ghost left = { λ _. None };
+
+    ghost counts_failures_alone = { true };
 
     ghost faults = { λ _. 0 };
 

@@ -1,7 +1,7 @@
 //! The spill store and the keeper of a caller whose commands call neither of them yet.
 //!
 //! They stand for files in `spill` and the durable store, which come with the commands that call them.
-ghost use Rattle.std.specs.Prelude.{None, false, refl};
+ghost use Rattle.std.specs.Prelude.{None, true, false, refl};
 
 use rl_ports::{Batch, Failed, Keeper, Pair, PortFault, Spill};
 
@@ -13,6 +13,8 @@ impl Spill for Unused {
     ghost tells = { false };
 
     ghost chunks = { λ _. None };
+
+    ghost counts_failures_alone = { true };
 
     ghost faults = { λ _. 0 };
 
@@ -39,6 +41,8 @@ impl Keeper for Unused {
     ghost tells = { false };
 
     ghost holds = { λ _. None };
+
+    ghost counts_failures_alone = { true };
 
     ghost faults = { λ _. 0 };
 

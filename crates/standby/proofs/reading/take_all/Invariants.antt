@@ -1,5 +1,5 @@
 use Rattle.std.proofs.Common.{◌≡◌, ◌≤◌, ◌<◌, ◌-◌, ◌^◌}
-use Rattle.rl_ports.specs.Faults.{Told}
+use Rattle.rl_ports.specs.Faults.{NoneCounted, Told}
 use Rattle.log_registry.specs.Registered.{AreToldBy}
 use Rattle.redo_reader.specs.Ahead.{redo_ahead}
 use Rattle.primary.specs.Progress.{recs_of, NoneWait}
@@ -17,6 +17,7 @@ invariant-loop-stop g l =
           l.fn.evaluator l.evaluator);
       registry : l.reader.registry ≡ l.fn.reader.registry;
       same : logs l.reader.archive ≡ logs l.fn.reader.archive;
+      none_counted : NoneCounted g.A.Archive.counts_failures_alone (faults l.fn.reader.archive) (faults l.reader.archive);
       later : faults l.fn.reader.archive ≤ faults l.reader.archive;
       none : NoneWait l.evaluator;
       numbered : recs_of l.evaluator ≤ l.reader.place.rec;

@@ -1,5 +1,6 @@
 use Rattle.std.proofs.Common.{◌≤◌, ◌-◌, length, take}
 use Rattle.std.specs.Io.KnownBytes.{Appends}
+use Rattle.rl_ports.specs.Faults.{NoneCounted}
 use Rattle.standby.proofs.say.say.Given as goal
 
 -- so many bytes of the text are written
@@ -10,6 +11,7 @@ invariant-loop-done g l =
     record {
       within : l.done ≤ length l.text;
       front : Appends (written l.fn.out) (written l.out) (take l.done l.text);
+      none : NoneCounted g.O.Sink.counts_failures_alone (faults l.fn.out) (faults l.out);
       later : faults l.fn.out ≤ faults l.out;
     }
 
