@@ -80,34 +80,29 @@ impl Evaluator {
         Ok(Evaluator { run, end: None })
     }
 
-    /// Takes the next record of the redo, in a log of this header. It answers whether the fold goes on: it has ended with a
-    /// bad record, a miss or the row limit, and then later records change nothing. After a fault nothing is said of it any
-    /// more.
+    /// Takes the next record of the redo, in a log of this header, and gives back the fold. Where it has ended, with a bad
+    /// record, a miss or the row limit, later records change nothing. After a fault there is no fold any more.
     #[tactic(auto, using(crate::proofs::StepLaws::recs_after))]
-    pub fn take(&mut self, head: &Header, rec: RedoRec, skips: &Skips) -> Result<bool, TakeFault>
-        requires few { recs_of self.old + 1 < 2 ^ 64 }
-        ensures taken { OnOk result (self.new ≡ progress_after_record skips.now (head.now, rec) self.old) }
-        ensures going { IfOk result (λ going. going ≡ is_going self.new) }
-        ensures records { OnOk result (recs_of self.new ≤ recs_of self.old + 1) }
-        ensures sound { OnOk result (RowsAreSound (head.now, rec) self.old) }
-        ensures unsound { result ≡ Err Unsound → RowsAreSound (head.now, rec) self.old → ⊥ }
+    pub fn take(self, head: &Header, rec: RedoRec, skips: &Skips) -> Result<Evaluator, TakeFault>
+        requires few { recs_of self + 1 < 2 ^ 64 }
+        ensures taken { IfOk result (λ fold. fold ≡ progress_after_record skips.now (head.now, rec) self) }
+        ensures records { IfOk result (λ fold. recs_of fold ≤ recs_of self + 1) }
+        ensures sound { OnOk result (RowsAreSound (head.now, rec) self) }
+        ensures unsound { result ≡ Err Unsound → RowsAreSound (head.now, rec) self → ⊥ }
     {
-        if self.end.is_some() {
-            return Ok(false);
+        let Evaluator { mut run, end } = self;
+        if end.is_some() {
+            return Ok(Evaluator { run, end });
         }
-        match self.run.step(head, rec, skips) {
-            Ok(None) => Ok(true),
-            Ok(Some(verdict)) => {
-                self.end = Some(verdict);
-                Ok(false)
-            }
-            Err(fault) => {
-                // What is left is of no use, and no later record may come to it. Rows half written are no tables.
-                self.run.tables = PlainTables::new(self.run.alloc);
-                self.end = Some(Verdict::Stopped(Stop::Drained));
-                Err(fault)
-            }
-        }
+        let end = run.step(head, rec, skips)?;
+        Ok(Evaluator { run, end })
+    }
+
+    /// The fold goes on: it has not ended with a bad record, a miss or the row limit.
+    pub fn is_going(&self) -> bool
+        ensures going { result ≡ is_going self.now }
+    {
+        self.end.is_none()
     }
 
     /// The fold, where the redo's records end so. Another fold may begin with its rows.

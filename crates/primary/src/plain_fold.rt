@@ -29,7 +29,7 @@ pub fn fold_plain(
     let mut fold = Evaluator::new(alloc, start)?;
     for (head, rec) in recs {
         match fold.take(head, rec.copy()?, skips) {
-            Ok(_) => {}
+            Ok(next) => fold = next,
             Err(TakeFault::Unsound) => unreachable!(),
             Err(TakeFault::Memory) => return Err(NoMemory),
         }

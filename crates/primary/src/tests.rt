@@ -1,5 +1,5 @@
 //! Small redos, built from their types: what their folds show, and why they end.
-ghost use Rattle.std.specs.Prelude.{◌≡◌, ◌+◌, ◌<◌, ◌≤◌, IsTrue, IfOk, OnOk, true};
+ghost use Rattle.std.specs.Prelude.{◌≡◌, ◌+◌, ◌<◌, ◌≤◌, IsTrue, IfOk, IfSome, true};
 ghost use Rattle.redo_vec.specs.declared.columns.Kind.TheVariants.{Number};
 ghost use Rattle.redo_vec.specs.Forms.{is_line30};
 ghost use Rattle.primary.specs.Progress.{recs_of};
@@ -196,11 +196,13 @@ fn a_bad_record_ends_the_fold(rt: HostRuntime) -> Result<(), Fail> {
 fn a_fold_that_has_ended_takes_no_more(rt: HostRuntime) -> Result<(), Fail> {
     let alloc = rt.alloc();
     let skips = Skips::new(alloc);
-    let mut fold = Evaluator::new(alloc, Plain::first(alloc, 1, 99))?;
+    let fold = Evaluator::new(alloc, Plain::first(alloc, 1, 99))?;
     let bad = one(alloc, 100, Vector::Commit(FIRST))?;
-    assert_eq!(rt; fold.take(&HEAD, bad.1, &skips)?, false);
+    let fold = fold.take(&HEAD, bad.1, &skips)?;
+    assert_eq!(rt; fold.is_going(), false);
     let dictionary = two(alloc, 100, Vector::Table(table(alloc)?), Vector::DictEnd)?;
-    assert_eq!(rt; fold.take(&HEAD, dictionary.1, &skips)?, false);
+    let fold = fold.take(&HEAD, dictionary.1, &skips)?;
+    assert_eq!(rt; fold.is_going(), false);
     let shown = fold.finish(Stop::Drained);
     assert_eq!(rt; shown.n, 0);
     assert_eq!(rt; shown.whole, false);
@@ -418,9 +420,9 @@ fn over_rows(alloc: Global, rows: &[Loaded]) -> Result<Evaluator, Fail>
     Ok(Evaluator::new(alloc, Plain::over(alloc, 1, 99, tables))?)
 }
 
-fn takes(alloc: Global, fold: &mut Evaluator, taken: (Header, RedoRec)) -> Result<bool, TakeFault>
-    requires few { recs_of fold.old < 8 }
-    ensures records { OnOk result (recs_of fold.new ≤ recs_of fold.old + 1) }
+fn takes(alloc: Global, fold: Evaluator, taken: (Header, RedoRec)) -> Result<Evaluator, TakeFault>
+    requires few { recs_of fold < 8 }
+    ensures records { IfOk result (λ next. recs_of next ≤ recs_of fold + 1) }
 {
     let (head, rec) = taken;
     fold.take(&head, rec, &Skips::new(alloc))
@@ -438,26 +440,26 @@ fn second_table(alloc: Global) -> Result<(Header, RedoRec), Fail> {
     two(alloc, 100, Vector::Table(other), Vector::DictEnd)
 }
 
-// Whether the fold goes on with the dictionary, whose rows it finds.
-fn goes_on(alloc: Global, fold: &mut Evaluator) -> Result<bool, Fail>
-    requires first { recs_of fold.old ≡ 0 }
-    ensures records { IfOk result (λ going. going ≡ true → recs_of fold.new ≤ 2) }
+// The fold with the dictionary, whose rows it finds, unless they are no sound tables.
+fn over_dictionary(alloc: Global, fold: Evaluator) -> Result<Option<Evaluator>, Fail>
+    requires first { recs_of fold ≡ 0 }
+    ensures records { IfOk result (λ found. IfSome found (λ next. recs_of next ≤ 2)) }
 {
-    let _ = takes(alloc, fold, first_table(alloc)?)?;
+    let fold = takes(alloc, fold, first_table(alloc)?)?;
     let last = second_table(alloc)?;
     match takes(alloc, fold, last) {
-        Ok(going) => Ok(going),
-        Err(TakeFault::Unsound) => Ok(false),
+        Ok(fold) => Ok(Some(fold)),
+        Err(TakeFault::Unsound) => Ok(None),
         Err(TakeFault::Memory) => Err(Fail::new("no memory")),
     }
 }
 
 // The update of the row of ID 1 from code 7 to code 8, and its commit.
-fn updates(alloc: Global, fold: &mut Evaluator) -> Result<bool, Fail>
-    requires few { recs_of fold.old ≤ 2 }
+fn updates(alloc: Global, fold: Evaluator) -> Result<Evaluator, Fail>
+    requires few { recs_of fold ≤ 2 }
 {
     let change = coded_change(alloc, CODED[1])?;
-    let _ = takes(alloc, fold, two(alloc, 101, Vector::Start(FIRST), change)?)?;
+    let fold = takes(alloc, fold, two(alloc, 101, Vector::Start(FIRST), change)?)?;
     let commit = one(alloc, 102, Vector::Commit(FIRST))?;
     Ok(takes(alloc, fold, commit)?)
 }
@@ -476,11 +478,12 @@ fn code_shown(shown: &Folded) -> Option<i64> {
 #[test]
 fn rows_wait_for_the_dictionary(rt: HostRuntime) -> Result<(), Fail> {
     let alloc = rt.alloc();
-    let mut fold = over_rows(alloc, &[LOADED])?;
-    if !goes_on(alloc, &mut fold)? {
+    let fold = over_rows(alloc, &[LOADED])?;
+    let Some(fold) = over_dictionary(alloc, fold)? else {
         return Err(Fail::new("the rows are sound"));
-    }
-    assert_eq!(rt; updates(alloc, &mut fold)?, true);
+    };
+    let fold = updates(alloc, fold)?;
+    assert_eq!(rt; fold.is_going(), true);
     let shown = fold.finish(Stop::Drained);
     assert_eq!(rt; shown.n, 1);
     assert_eq!(rt; shown.tables.count(2), 1);
@@ -490,8 +493,8 @@ fn rows_wait_for_the_dictionary(rt: HostRuntime) -> Result<(), Fail> {
 
 // Whether a fold goes on over this row, beside the one of ID 1.
 fn goes_on_over(alloc: Global, loaded: Loaded) -> Result<bool, Fail> {
-    let mut fold = over_rows(alloc, &[LOADED, loaded])?;
-    goes_on(alloc, &mut fold)
+    let fold = over_rows(alloc, &[LOADED, loaded])?;
+    Ok(over_dictionary(alloc, fold)?.is_some_and(|fold| fold.is_going()))
 }
 
 #[test]

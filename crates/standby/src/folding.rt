@@ -113,8 +113,8 @@ fn folded_ahead<A: Archive>(alloc: Global, seq: u32, base: Scn, reader: ReadSide
             folded: Err(FoldFault::Memory),
             archive: reader.into_archive(),
         },
-        Ok(mut evaluator) => match take_all(alloc, &mut evaluator, &mut reader) {
-            Ok(stop) => FoldedLog {
+        Ok(evaluator) => match take_all(alloc, evaluator, &mut reader) {
+            Ok((evaluator, stop)) => FoldedLog {
                 folded: Ok(evaluator.finish(stop)),
                 archive: reader.into_archive(),
             },

@@ -67,25 +67,29 @@ pub enum Took {
     Undecoded(Cause),
 }
 
-// Hands a record to the evaluator, if it decodes.
-fn take_raw(alloc: Global, evaluator: &mut Evaluator, raw: &Raw) -> Result<Took, NoMemory>
+// Hands a record to the evaluator, if it decodes. It gives back the evaluator, and what became of the record.
+fn take_raw(alloc: Global, evaluator: Evaluator, raw: &Raw) -> Result<(Evaluator, Took), NoMemory>
     requires whole { first_record raw.now.bytes ≡ Ok (raw.now.bytes, []) }
-    requires numbered { recs_of evaluator.old + 1 < 2 ^ 64 }
-    requires none { NoneWait evaluator.old }
-    ensures taken { IfOk result (λ took. TakesRaw raw.now evaluator.old evaluator.new took) }
-    ensures number { OnOk result (recs_of evaluator.new ≤ recs_of evaluator.old + 1) }
-    ensures none { OnOk result (NoneWait evaluator.new) }
+    requires numbered { recs_of evaluator + 1 < 2 ^ 64 }
+    requires none { NoneWait evaluator }
+    ensures taken { IfOk result (λ handed. TakesRaw raw.now evaluator handed.0 handed.1) }
+    ensures number { IfOk result (λ handed. recs_of handed.0 ≤ recs_of evaluator + 1) }
+    ensures none { IfOk result (λ handed. NoneWait handed.0) }
 {
     no_rows_are_sound();
     match decode_record(alloc, raw.bytes.bytes()) {
         Ok(rec) => match evaluator.take(&raw.head, rec, &Skips::new(alloc)) {
-            Ok(true) => Ok(Took::On),
-            Ok(false) => Ok(Took::Ended),
+            Ok(next) => {
+                if next.is_going() {
+                    return Ok((next, Took::On));
+                }
+                Ok((next, Took::Ended))
+            }
             Err(TakeFault::Unsound) => unreachable!(),
             Err(TakeFault::Memory) => Err(NoMemory),
         },
         Err(DecodeFault::Vector { fault, place }) => {
-            Ok(Took::Undecoded(Cause::Vector { fault, place }))
+            Ok((evaluator, Took::Undecoded(Cause::Vector { fault, place })))
         }
         Err(DecodeFault::Memory) => Err(NoMemory),
     }
@@ -102,22 +106,22 @@ fn stop_with(rec: u64, took: Took) -> Option<Stop>
     }
 }
 
-// Hands the next record to the evaluator, or says what ends the redo.
+// Hands the next record to the evaluator and gives it back, or says what ends the redo.
 fn take_next<A: Archive>(
     alloc: Global,
-    evaluator: &mut Evaluator,
+    evaluator: Evaluator,
     reader: &mut ReadSide<A>,
-) -> Result<Option<Stop>, FoldFault>
-    requires numbered { recs_of evaluator.old ≤ reader.old.place.rec }
-    requires none { NoneWait evaluator.old }
+) -> Result<(Evaluator, Option<Stop>), FoldFault>
+    requires numbered { recs_of evaluator ≤ reader.old.place.rec }
+    requires none { NoneWait evaluator }
     requires room { reader.old.place.rec < 2 ^ 63 }
     ensures steps { Told (A.logs reader.old.archive) (λ logs. AreToldBy logs reader.old.registry →
-        IfOk result (Steps (redo_ahead logs reader.old.registry reader.old.place)
-        (redo_ahead logs reader.new.registry reader.new.place) evaluator.old evaluator.new)) }
-    ensures on { IfOk result (λ end. end ≡ None → reader.new.place.rec ≡ reader.old.place.rec + 1) }
-    ensures numbered { IfOk result (λ end. recs_of evaluator.new ≤ reader.new.place.rec) }
-    ensures none { OnOk result (NoneWait evaluator.new) }
-    ensures room { IfOk result (λ end. reader.new.place.rec < 2 ^ 63) }
+        IfOk result (λ next. Steps (redo_ahead logs reader.old.registry reader.old.place)
+        (redo_ahead logs reader.new.registry reader.new.place) evaluator next.0 next.1)) }
+    ensures on { IfOk result (λ next. next.1 ≡ None → reader.new.place.rec ≡ reader.old.place.rec + 1) }
+    ensures numbered { IfOk result (λ next. recs_of next.0 ≤ reader.new.place.rec) }
+    ensures none { IfOk result (λ next. NoneWait next.0) }
+    ensures room { OnOk result (reader.new.place.rec < 2 ^ 63) }
     ensures registry { reader.new.registry ≡ reader.old.registry }
     ensures logs { A.logs reader.new.archive ≡ A.logs reader.old.archive }
     ensures failed { result ≡ Err FoldFailed → Rose (A.faults reader.old.archive) (A.faults reader.new.archive) }
@@ -126,36 +130,39 @@ fn take_next<A: Archive>(
     ensures count { A.faults reader.old.archive ≤ A.faults reader.new.archive }
 {
     match reader.cut()? {
-        Cut::End(stop) => Ok(Some(stop)),
+        Cut::End(stop) => Ok((evaluator, Some(stop))),
         Cut::Raw(raw) => {
-            let took = take_raw(alloc, evaluator, &raw)?;
+            let (next, took) = take_raw(alloc, evaluator, &raw)?;
             let stop = stop_with(raw.rec, took);
-            Ok(stop)
+            Ok((next, stop))
         }
     }
 }
 
-/// Hands the records that are ahead to the evaluator, up to the first that doesn't decode, and says what ends them. Where
-/// the evaluator has ended before, later records are not read, and what is said of the redo's end no longer counts.
+/// Hands the records that are ahead to the evaluator, up to the first that doesn't decode, and gives it back with what ends
+/// them. Where it has ended before, later records are not read, and what is said of the redo's end no longer counts.
 pub fn take_all<A: Archive>(
     alloc: Global,
-    evaluator: &mut Evaluator,
+    evaluator: Evaluator,
     reader: &mut ReadSide<A>,
-) -> Result<Stop, FoldFault>
-    requires numbered { recs_of evaluator.old ≤ reader.old.place.rec }
-    requires none { NoneWait evaluator.old }
+) -> Result<(Evaluator, Stop), FoldFault>
+    requires numbered { recs_of evaluator ≤ reader.old.place.rec }
+    requires none { NoneWait evaluator }
     requires room { reader.old.place.rec < 2 ^ 63 }
     ensures ends { Told (A.logs reader.old.archive) (λ logs. AreToldBy logs reader.old.registry →
-        IfOk result (EndsAs (redo_ahead logs reader.old.registry reader.old.place) evaluator.old evaluator.new)) }
+        IfOk result (λ ended. EndsAs (redo_ahead logs reader.old.registry reader.old.place) evaluator ended.0 ended.1)) }
     ensures logs { A.logs reader.new.archive ≡ A.logs reader.old.archive }
     ensures failed { result ≡ Err FoldFailed → Rose (A.faults reader.old.archive) (A.faults reader.new.archive) }
     ensures none_passed_over { result ≢ Err FoldFailed →
         NoneCounted A.counts_failures_alone (A.faults reader.old.archive) (A.faults reader.new.archive) }
     ensures count { A.faults reader.old.archive ≤ A.faults reader.new.archive }
 {
+    let mut fold = evaluator;
     loop {
-        if let Some(stop) = take_next(alloc, evaluator, reader)? {
-            return Ok(stop);
+        let (next, end) = take_next(alloc, fold, reader)?;
+        fold = next;
+        if let Some(stop) = end {
+            return Ok((fold, stop));
         }
     }
 }

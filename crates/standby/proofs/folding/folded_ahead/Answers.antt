@@ -6,5 +6,5 @@ pub returns-in-Ok-take_all-clause-folded : goal.returns-in-Ok-take_all-clause-fo
 returns-in-Ok-take_all-clause-folded g c =
     fold-where_told c.the_evaluator_folds.ensures.folds c.first_fold_is_of_the_redo.ensures.same
     (g.A.Archive.logs c.args.reader.archive) c.args.reader.registry c.args.reader.place
-    c.args.seq c.args.base c.in-Ok.evaluator c.take_all.new.evaluator _ (folded_of c.finish.result)
+    c.args.seq c.args.base c.in-Ok.evaluator c.in-Ok-take_all.evaluator _ (folded_of c.finish.result)
     c.in-Ok.ensures.begun c.in-Ok-take_all.ensures.ends c.finish.ensures.shown

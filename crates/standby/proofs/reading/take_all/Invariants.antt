@@ -7,22 +7,22 @@ use Rattle.standby.specs.Folding.{StepsOn}
 use Rattle.standby.proofs.reading.take_all.Given as goal
 
 -- what is still ahead leads to where all of it did
-abbrev pub invariant-loop-stop : goal.invariant-loop-stop
-invariant-loop-stop g l =
+abbrev pub invariant-loop-next : goal.invariant-loop-next
+invariant-loop-next g l =
     let logs = g.A.Archive.logs in
     let faults = g.A.Archive.faults in
     record {
       steps : Told (logs l.fn.reader.archive) (λ known. AreToldBy known l.fn.reader.registry →
           StepsOn (redo_ahead known l.fn.reader.registry l.fn.reader.place) (redo_ahead known l.reader.registry l.reader.place)
-          l.fn.evaluator l.evaluator);
+          l.fn.evaluator l.fold);
       registry : l.reader.registry ≡ l.fn.reader.registry;
       same : logs l.reader.archive ≡ logs l.fn.reader.archive;
       none_counted : NoneCounted g.A.Archive.counts_failures_alone (faults l.fn.reader.archive) (faults l.reader.archive);
       later : faults l.fn.reader.archive ≤ faults l.reader.archive;
-      none : NoneWait l.evaluator;
-      numbered : recs_of l.evaluator ≤ l.reader.place.rec;
+      none : NoneWait l.fold;
+      numbered : recs_of l.fold ≤ l.reader.place.rec;
       room : l.reader.place.rec < 2 ^ 63;
     }
 
-abbrev pub decreases-loop-stop : goal.decreases-loop-stop
-decreases-loop-stop g l = 2 ^ 63 - l.reader.place.rec
+abbrev pub decreases-loop-next : goal.decreases-loop-next
+decreases-loop-next g l = 2 ^ 63 - l.reader.place.rec
