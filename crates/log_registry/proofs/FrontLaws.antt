@@ -5,6 +5,7 @@ use Rattle.std.proofs.lemmas.List.{take-append-le, take_all, length-take-le, len
 use Rattle.std.specs.Io.{ReadsAtMost}
 use Rattle.rl_ports.specs.declared.fault.Failed.{Failed}
 use Rattle.rl_ports.specs.Faults.{Told, ReadsLog, ReadsFrom}
+use Rattle.redo_wire.specs.declared.header.TheConstants.{HEADER_LENGTH}
 use Rattle.log_registry.specs.Front.{IsReadTo, ReadsOn, IsReadOn, IsFront}
 
 seam : (f xs ys : List ℕ) (count more : ℕ) → length f ≡ count → more ≤ length xs →
@@ -60,21 +61,22 @@ room_size front room count within =
 
 -- ---- the end of the front
 
-ended : (bytes front : List ℕ) (count : ℕ) → count < 40 → length front ≡ 40 → ReadsOn bytes front count 0 →
-    take count front ≡ take 40 bytes
+ended : (bytes front : List ℕ) (count : ℕ) → count < HEADER_LENGTH → length front ≡ HEADER_LENGTH → ReadsOn bytes front count 0 →
+    take count front ≡ take HEADER_LENGTH bytes
 ended bytes front count short size read =
     let all : length bytes ≤ count = read.end refl (omega arith) in
     ap (λ (n : ℕ). take n front) (omega arith) ∙ read.given ∙ take_all (count + 0) bytes (omega (arith, all)) ∙
-    sym (take_all 40 bytes (omega (arith, all)))
+    sym (take_all HEADER_LENGTH bytes (omega (arith, all)))
 
-found_end : (found : Option (List ℕ)) (front : List ℕ) (count more : ℕ) → count < 40 → length front ≡ 40 → more ≡ 0 →
+found_end : (found : Option (List ℕ)) (front : List ℕ) (count more : ℕ) → count < HEADER_LENGTH →
+    length front ≡ HEADER_LENGTH → more ≡ 0 →
     IsReadOn found front count more → IsFront found front count
 found_end None front count more short size none read = tt
 found_end (Some bytes) front count zero short size none read = ended bytes front count short size read
 found_end (Some bytes) front count (suc more) short size none read = absurd (omega arith)
 
-pub told_end : (known : Option (ℕ → Option (List ℕ))) (seq : ℕ) (front : List ℕ) (count more : ℕ) → count < 40 →
-    length front ≡ 40 → more ≡ 0 →
+pub told_end : (known : Option (ℕ → Option (List ℕ))) (seq : ℕ) (front : List ℕ) (count more : ℕ) → count < HEADER_LENGTH →
+    length front ≡ HEADER_LENGTH → more ≡ 0 →
     Told known (λ logs. IsReadOn (logs seq) front count more) → Told known (λ logs. IsFront (logs seq) front count)
 told_end None seq front count more short size none read = tt
 told_end (Some logs) seq front count more short size none read = found_end (logs seq) front count more short size none read

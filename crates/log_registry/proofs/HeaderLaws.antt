@@ -12,6 +12,7 @@ use Rattle.rl_value.specs.Outcome.{first_fault, refused_by}
 use Rattle.redo_vec.specs.Cutting.{number_in}
 use Rattle.redo_spec.specs.declared.header.Header.{Header}
 use Rattle.redo_spec.specs.LogHeader.{header_in, header_fault}
+use Rattle.redo_wire.specs.declared.header.TheConstants.{HEADER_LENGTH}
 use Rattle.log_registry.specs.declared.entry.LogEntry.{LogEntry}
 use Rattle.log_registry.specs.declared.fault.RegFault.{RegFault}
 use Rattle.log_registry.specs.declared.fault.RegFault.TheVariants as refusals
@@ -53,7 +54,7 @@ u64_more : (at : ℕ) (a b : List ℕ) → at + 8 ≤ length a → number_in w64
 u64_more at a b h = ap (from_be_bytes w64) (drop-append-le at a b (omega arith)) ∙
     eight_more (drop at a) b (omega (arith, length-drop at a))
 
-header_more : (a b : List ℕ) → 40 ≤ length a → header_in (a ++ b) ≡ header_in a
+header_more : (a b : List ℕ) → HEADER_LENGTH ≤ length a → header_in (a ++ b) ≡ header_in a
 header_more a b h =
     let seq = u32_more 12 a b (omega arith) in
     let dbid = u32_more 8 a b (omega arith) in
@@ -62,11 +63,12 @@ header_more a b h =
     let count = u32_more 32 a b (omega arith) in
     λ i. record { seq = seq i; dbid = dbid i; first = first i; next = next i; count = count i }
 
-fault_more : (seq : ℕ) (a b : List ℕ) → 40 ≤ length a → header_fault seq (a ++ b) ≡ header_fault seq a
+fault_more : (seq : ℕ) (a b : List ℕ) → HEADER_LENGTH ≤ length a → header_fault seq (a ++ b) ≡ header_fault seq a
 fault_more seq a b h =
-    let long : nat_lt (length (a ++ b)) 40 ≡ nat_lt (length a) 40 =
-    (let whole : nat_lt (length (a ++ b)) 40 ≡ false = (let size = length-append a b in grind (arith, nat_tests, size, h)) in
-    let front : nat_lt (length a) 40 ≡ false = grind (arith, nat_tests, h) in whole ∙ sym front) in
+    let long : nat_lt (length (a ++ b)) HEADER_LENGTH ≡ nat_lt (length a) HEADER_LENGTH =
+    (let whole : nat_lt (length (a ++ b)) HEADER_LENGTH ≡ false =
+    (let size = length-append a b in grind (arith, nat_tests, size, h)) in
+    let front : nat_lt (length a) HEADER_LENGTH ≡ false = grind (arith, nat_tests, h) in whole ∙ sym front) in
     let magic : take 4 (a ++ b) ≡ take 4 a = take-append-le 4 a b (omega arith) in
     let version = u16_more 4 a b (omega arith) in
     let thread = u16_more 6 a b (omega arith) in
@@ -85,29 +87,31 @@ fault_more seq a b h =
 
 -- ---- what is judged
 
-short_log : (seq : ℕ) (bytes : List ℕ) → nat_lt (length bytes) 40 ≡ true →
-    entry_of_front (take 40 bytes) (length bytes) seq ≡ answer_of_look seq (Some bytes)
+short_log : (seq : ℕ) (bytes : List ℕ) → nat_lt (length bytes) HEADER_LENGTH ≡ true →
+    entry_of_front (take HEADER_LENGTH bytes) (length bytes) seq ≡ answer_of_look seq (Some bytes)
 short_log seq bytes short = rw short refl
 
-long_log : (seq : ℕ) (bytes a b : List ℕ) → a ++ b ≡ bytes → 40 ≤ length a →
+long_log : (seq : ℕ) (bytes a b : List ℕ) → a ++ b ≡ bytes → HEADER_LENGTH ≤ length a →
     entry_of_front a (length bytes) seq ≡ answer_of_look seq (Some bytes)
 long_log seq bytes a b is h =
-    let size : nat_lt (length bytes) 40 ≡ false = (let all = ap length is in let sum = length-append a b in
+    let size : nat_lt (length bytes) HEADER_LENGTH ≡ false = (let all = ap length is in let sum = length-append a b in
     grind (arith, nat_tests, all, sum, h)) in
     ap (λ (c : Bool). cond c (Err (refusals.BadHeader heads.Short))
     (entry_unless_refused (header_fault seq a) (Ok (entry_with (header_in a) (length bytes))))) size
     ∙ sym (λ i. entry_unless_refused (fault_more seq a b h i) (Ok (entry_with (header_more a b h i) (length bytes))))
     ∙ ap (λ (bs : List ℕ). entry_unless_refused (header_fault seq bs) (Ok (entry_with (header_in bs) (length bytes)))) is
 
-of_size : (c : Bool) (seq : ℕ) (bytes : List ℕ) → nat_lt (length bytes) 40 ≡ c →
-    entry_of_front (take 40 bytes) (length bytes) seq ≡ answer_of_look seq (Some bytes)
+of_size : (c : Bool) (seq : ℕ) (bytes : List ℕ) → nat_lt (length bytes) HEADER_LENGTH ≡ c →
+    entry_of_front (take HEADER_LENGTH bytes) (length bytes) seq ≡ answer_of_look seq (Some bytes)
 of_size true seq bytes is = short_log seq bytes is
 of_size false seq bytes is =
-    let long : 40 ≤ length bytes = grind (arith, nat_tests, is) in
-    long_log seq bytes (take 40 bytes) (drop 40 bytes) (take-append-drop 40 bytes) (omega (arith, length-take-le 40 bytes long))
+    let long : HEADER_LENGTH ≤ length bytes = grind (arith, nat_tests, is) in
+    long_log seq bytes (take HEADER_LENGTH bytes) (drop HEADER_LENGTH bytes) (take-append-drop HEADER_LENGTH bytes)
+    (omega (arith, length-take-le HEADER_LENGTH bytes long))
 
-pub judged_log : (seq : ℕ) (bytes : List ℕ) → entry_of_front (take 40 bytes) (length bytes) seq ≡ answer_of_look seq (Some bytes)
-judged_log seq bytes = of_size (nat_lt (length bytes) 40) seq bytes refl
+pub judged_log : (seq : ℕ) (bytes : List ℕ) →
+    entry_of_front (take HEADER_LENGTH bytes) (length bytes) seq ≡ answer_of_look seq (Some bytes)
+judged_log seq bytes = of_size (nat_lt (length bytes) HEADER_LENGTH) seq bytes refl
 
 -- ---- a header that was read
 
@@ -120,19 +124,21 @@ err_header None h fault e = absurd (cc)
 err_header (Some other) h fault e = cc
 
 abbrev Judging : ℕ → Option HeadFault → Header → Result LogEntry RegFault
-Judging size f h = cond (nat_lt size 40) (Err (refusals.BadHeader heads.Short)) (entry_unless_refused f (Ok (entry_with h size)))
+Judging size f h = cond (nat_lt size HEADER_LENGTH) (Err (refusals.BadHeader heads.Short))
+    (entry_unless_refused f (Ok (entry_with h size)))
 
-pub judged_err : (size : ℕ) (f : Option HeadFault) (h : Header) (fault : HeadFault) → 40 ≤ size → Err fault ≡ refused_by f h →
+pub judged_err : (size : ℕ) (f : Option HeadFault) (h : Header) (fault : HeadFault) → HEADER_LENGTH ≤ size →
+    Err fault ≡ refused_by f h →
     Err (refusals.BadHeader fault) ≡ Judging size f h
 judged_err size f h fault long e =
-    let test : nat_lt size 40 ≡ false = grind (arith, nat_tests, long) in
+    let test : nat_lt size HEADER_LENGTH ≡ false = grind (arith, nat_tests, long) in
     let is = err_header f h fault e in
     rw (test, is) refl
 
-pub judged_ok : (size : ℕ) (f : Option HeadFault) (h : Header) (head : Header) → 40 ≤ size → Ok head ≡ refused_by f h →
+pub judged_ok : (size : ℕ) (f : Option HeadFault) (h : Header) (head : Header) → HEADER_LENGTH ≤ size → Ok head ≡ refused_by f h →
     Ok (entry_with head size) ≡ Judging size f h
 judged_ok size f h head long e =
-    let test : nat_lt size 40 ≡ false = grind (arith, nat_tests, long) in
+    let test : nat_lt size HEADER_LENGTH ≡ false = grind (arith, nat_tests, long) in
     let is = ok_header f h head e in
     sym (rw (test, is.0) (ap (λ (g : Header). Ok (entry_with g size)) (sym is.1)))
 
@@ -154,7 +160,7 @@ same_seq a b e = grind (arith, nat_tests)
 pub sequence_is : (seq : ℕ) (bytes : List ℕ) → header_fault seq bytes ≡ None → (header_in bytes).seq ≡ seq
 sequence_is seq bytes e =
     let h = header_in bytes in
-    same_seq h.seq seq (fifth_passes (nat_lt (length bytes) 40) (not (same_bytes (take 4 bytes) (codes "SRL1")))
+    same_seq h.seq seq (fifth_passes (nat_lt (length bytes) HEADER_LENGTH) (not (same_bytes (take 4 bytes) (codes "SRL1")))
     (not (number_in w16 4 bytes == 1)) (not (number_in w16 6 bytes == 1)) (not (h.seq == seq))
     (h.first == 0 || nat_le h.next h.first) (h.count == 0) (not (number_in w32 36 bytes == 0)) e)
 
@@ -173,20 +179,22 @@ sized_fits true seq r h = tt
 sized_fits false seq r h = h
 
 pub judged_fits : (front : List ℕ) (size seq : ℕ) → IfOk (entry_of_front front size seq) (AskedFor seq)
-judged_fits front size seq = sized_fits (nat_lt size 40) seq _ (unless_fits (header_fault seq front) seq size front refl)
+judged_fits front size seq = sized_fits (nat_lt size HEADER_LENGTH) seq _
+    (unless_fits (header_fault seq front) seq size front refl)
 
-unless_long : (f : Option HeadFault) (size : ℕ) (h : Header) → 40 ≤ size →
-    IfOk (entry_unless_refused f (Ok (entry_with h size))) (λ e. 40 ≤ e.length)
+unless_long : (f : Option HeadFault) (size : ℕ) (h : Header) → HEADER_LENGTH ≤ size →
+    IfOk (entry_unless_refused f (Ok (entry_with h size))) (λ e. HEADER_LENGTH ≤ e.length)
 unless_long None size h long = long
 unless_long (Some fault) size h long = tt
 
-sized_long : (c : Bool) (f : Option HeadFault) (size : ℕ) (h : Header) → nat_lt size 40 ≡ c →
-    IfOk (cond c (Err (refusals.BadHeader heads.Short)) (entry_unless_refused f (Ok (entry_with h size)))) (λ e. 40 ≤ e.length)
+sized_long : (c : Bool) (f : Option HeadFault) (size : ℕ) (h : Header) → nat_lt size HEADER_LENGTH ≡ c →
+    IfOk (cond c (Err (refusals.BadHeader heads.Short)) (entry_unless_refused f (Ok (entry_with h size))))
+    (λ e. HEADER_LENGTH ≤ e.length)
 sized_long true f size h is = tt
 sized_long false f size h is = unless_long f size h (grind (arith, nat_tests, is))
 
-pub judged_long : (front : List ℕ) (size seq : ℕ) → IfOk (entry_of_front front size seq) (λ e. 40 ≤ e.length)
-judged_long front size seq = sized_long (nat_lt size 40) (header_fault seq front) size (header_in front) refl
+pub judged_long : (front : List ℕ) (size seq : ℕ) → IfOk (entry_of_front front size seq) (λ e. HEADER_LENGTH ≤ e.length)
+judged_long front size seq = sized_long (nat_lt size HEADER_LENGTH) (header_fault seq front) size (header_in front) refl
 
 unless_no_fault : (f : Option HeadFault) (size : ℕ) (h : Header) →
     entry_unless_refused f (Ok (entry_with h size)) ≡ Err refusals.ArchiveFault → ⊥
@@ -199,7 +207,7 @@ sized_no_fault true r h is = cc
 sized_no_fault false r h is = h is
 
 pub judged_no_fault : (front : List ℕ) (size seq : ℕ) → entry_of_front front size seq ≡ Err refusals.ArchiveFault → ⊥
-judged_no_fault front size seq is = sized_no_fault (nat_lt size 40) _
+judged_no_fault front size seq is = sized_no_fault (nat_lt size HEADER_LENGTH) _
     (unless_no_fault (header_fault seq front) size (header_in front)) is
 
 found_exact : (log : Option (List ℕ)) (seq size count : ℕ) (found : Option ℕ) (front : List ℕ) (r : Result LogEntry RegFault) →

@@ -52,7 +52,7 @@ pub(crate) fn read_front<A: Archive>(
     seq: u32,
     front: &mut [u8; HEADER_LENGTH],
 ) -> Result<usize, Failed>
-    ensures bound { IfOk result (λ count. count ≤ 40) }
+    ensures bound { IfOk result (λ count. count ≤ HEADER_LENGTH) }
     ensures front { Told (A.logs archive.old) (λ logs. IfOk result (IsFront (logs seq) front.new)) }
     ensures logs { A.logs archive.new ≡ A.logs archive.old }
     ensures failed { OnErr result (Rose (A.faults archive.old) (A.faults archive.new)) }

@@ -31,7 +31,7 @@ pub fn look<A: Archive>(archive: &mut A, seq: u32) -> Result<LogEntry, RegFault>
     ensures exact { Told (A.logs archive.old) (λ logs. result ≢ Err ArchiveFault → result ≡ answer_of_look seq (logs seq)) }
     // Of an archive that does not tell its logs, too.
     ensures sequence { IfOk result (λ entry. entry.head.seq ≡ seq) }
-    ensures long { IfOk result (λ entry. 40 ≤ entry.length) }
+    ensures long { IfOk result (λ entry. HEADER_LENGTH ≤ entry.length) }
     ensures failed { result ≡ Err ArchiveFault → Rose (A.faults archive.old) (A.faults archive.new) }
     ensures none_passed_over { result ≢ Err ArchiveFault →
         NoneCounted A.counts_failures_alone (A.faults archive.old) (A.faults archive.new) }
@@ -55,7 +55,7 @@ pub fn inspect<A: Archive>(archive: &mut A, seq: u32, dbid: u32) -> Result<LogEn
         result ≡ answer_of_inspect seq dbid (logs seq)) }
     // Of an archive that does not tell its logs, too.
     ensures sequence { IfOk result (λ entry. entry.head.seq ≡ seq) }
-    ensures long { IfOk result (λ entry. 40 ≤ entry.length) }
+    ensures long { IfOk result (λ entry. HEADER_LENGTH ≤ entry.length) }
     ensures database { IfOk result (λ entry. entry.head.dbid ≡ dbid) }
     ensures failed { result ≡ Err ArchiveFault → Rose (A.faults archive.old) (A.faults archive.new) }
     ensures none_passed_over { result ≢ Err ArchiveFault →

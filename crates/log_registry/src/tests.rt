@@ -3,14 +3,14 @@ ghost use Rattle.std.specs.Prelude.{◌≡◌, None, OnOk, true, false, refl};
 ghost use Rattle.rl_ports.specs.Faults.{HasCause};
 
 use super::*;
-use redo_wire::Header;
+use redo_wire::{HEADER_LENGTH, Header};
 use rl_ports::{Archive, Failed};
 use rl_value::HeadFault;
 use std::alloc::Global;
 use std::test::Fail;
 
 // The header of log 1 of database 9 with SCNs 100 to 199 and 3 records; 106 bytes follow it in its log.
-const HEAD: [u8; 40] = [
+const HEAD: [u8; HEADER_LENGTH] = [
     0x53, 0x52, 0x4c, 0x31, 0, 1, 0, 1, 0, 0, 0, 9, 0, 0, 0, 1, 0, 0, 0, 0, 0, 0, 0, 0x64, 0, 0, 0,
     0, 0, 0, 0, 0xc8, 0, 0, 0, 3, 0, 0, 0, 0,
 ];
@@ -39,7 +39,7 @@ impl Shelf {
     }
 }
 
-fn head_of(seq: u32) -> [u8; 40] {
+fn head_of(seq: u32) -> [u8; HEADER_LENGTH] {
     let mut head = HEAD;
     if seq == 3 {
         head[11] = 8;
@@ -77,7 +77,7 @@ impl Archive for Shelf {
     fn read(&mut self, seq: u32, at: u64, into: &mut [u8]) -> Result<usize, Failed> {
         self.call()?;
         let head = head_of(seq);
-        let end = size_of_log(seq).min(40);
+        let end = size_of_log(seq).min(HEADER_LENGTH);
         if at >= end as u64 {
             return Ok(0);
         }

@@ -8,6 +8,7 @@ use Rattle.std.proofs.Math.Seq.{drop-append_seam}
 use Rattle.rl_value.specs.declared.cause.CutFault.{CutFault}
 use Rattle.rl_value.specs.declared.cause.CutFault.TheVariants as faults
 use Rattle.rl_value.specs.Outcome.{first_fault, refused_by}
+use Rattle.redo_vec.specs.declared.limits.TheConstants.{MIN_RECORD, MAX_RECORD, MAX_VECTORS}
 use Rattle.redo_vec.specs.Cutting.{number_in, first_record}
 use Rattle.redo_spec.specs.declared.header.Header.{Header}
 use Rattle.redo_wire.specs.declared.raw.Raw.{Raw}
@@ -53,9 +54,9 @@ first_parts b x e =
     let count = number_in w16 12 b in
     let y : (take size b, drop size b) ≡ x = refused_ok (first_fault (
     (nat_lt (length b) 4, faults.Truncated)
-    ∷ (nat_lt size 15 || nat_lt 65536 size, faults.Length)
+    ∷ (nat_lt size MIN_RECORD || nat_lt MAX_RECORD size, faults.Length)
     ∷ (nat_lt (length b) size, faults.Truncated)
-    ∷ (count == 0 || nat_lt 255 count, faults.Count)
+    ∷ (count == 0 || nat_lt MAX_VECTORS count, faults.Count)
     ∷ [])) (take size b, drop size b) x e in
     ap (λ (z : List ℕ × List ℕ). z.0 ++ z.1) (sym y) ∙ take-append-drop size b
 

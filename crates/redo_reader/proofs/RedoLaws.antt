@@ -17,6 +17,7 @@ use Rattle.redo_spec.specs.declared.header.Header.{Header}
 use Rattle.redo_spec.specs.LogHeader.{header_in, header_fault}
 use Rattle.redo_spec.specs.History.{Entry}
 use Rattle.redo_spec.specs.Redo.{Redo, Records, redo_ended_by, redo_behind, redo_after_records, records_in, records_of, redo_from, decoded_or as entry_or}
+use Rattle.redo_wire.specs.declared.header.TheConstants.{HEADER_LENGTH}
 use Rattle.redo_wire.specs.declared.raw.Raw.{Raw}
 use Rattle.redo_wire.specs.declared.cutting.LogPlace.{LogPlace}
 use Rattle.redo_wire.specs.Stream.{Cut, Run, cut_off, cut_or, with_raw, raw_of_bytes, log_place_behind, run_of, stream_at, as_cut, end_fault}
@@ -123,14 +124,14 @@ pub record CutterLaws : Type 0 where
 records_cut : CutterLaws → (h : Header) (rec : ℕ) (bytes : List ℕ) → let c =
     cut_off h (h.count - 0) (log_begin rec) bytes in records_in h h.count bytes ≡ entries_of_raws c.raws (cause_of h c)
 records_cut laws h rec bytes =
-    let r : Run = run_of (stream_at h (rec + 1) 40 0) (bytes ∷ []) in
+    let r : Run = run_of (stream_at h (rec + 1) HEADER_LENGTH 0) (bytes ∷ []) in
     let c : Cut = cut_off h (h.count - 0) (log_begin rec) (concat (bytes ∷ [])) in
     let whole : h.count - 0 ≡ h.count = omega arith in
     let one : concat (bytes ∷ []) ≡ bytes = append-nil bytes in
-    let cut : as_cut r ≡ c = laws.pieces h (rec + 1) 40 0 (bytes ∷ []) in
-    let end : end_fault r.stream ≡ missing_after h c = laws.end h (rec + 1) 40 0 (bytes ∷ []) in
+    let cut : as_cut r ≡ c = laws.pieces h (rec + 1) HEADER_LENGTH 0 (bytes ∷ []) in
+    let end : end_fault r.stream ≡ missing_after h c = laws.end h (rec + 1) HEADER_LENGTH 0 (bytes ∷ []) in
     let all : records_in h (h.count - 0) (concat (bytes ∷ [])) ≡ entries_of_raws r.raws (option_or r.cause (end_fault r.stream)) =
-    laws.records h (rec + 1) 40 0 (bytes ∷ []) (omega arith) in
+    laws.records h (rec + 1) HEADER_LENGTH 0 (bytes ∷ []) (omega arith) in
     ap (λ (k : ℕ). records_in h k bytes) (sym whole)
     ∙ ap (λ (b : List ℕ). records_in h (h.count - 0) b) (sym one)
     ∙ all
@@ -142,14 +143,14 @@ records_cut laws h rec bytes =
 log_decoded : CutterLaws → (h : Header) (rec : ℕ) (bytes : List ℕ) (later : ℕ → Ahead) (logs : ℕ → Redo) →
     ((k : ℕ) → redo_of k (later k) ≡ logs k)
     → redo_of rec (in_log h (log_begin rec) bytes later) ≡
-    (let r = records_in h h.count (drop 40 bytes) in redo_after_records rec r (logs (rec + length r.entries)))
+    (let r = records_in h h.count (drop HEADER_LENGTH bytes) in redo_after_records rec r (logs (rec + length r.entries)))
 log_decoded laws h rec bytes later logs e =
-    let c : Cut = cut_off h (h.count - 0) (log_begin rec) (drop 40 bytes) in
+    let c : Cut = cut_off h (h.count - 0) (log_begin rec) (drop HEADER_LENGTH bytes) in
     let r : Records = entries_of_raws c.raws (cause_of h c) in
-    let place : c.place.rec ≡ rec + 1 + length c.raws = counted h (h.count - 0) (log_begin rec) (drop 40 bytes) in
+    let place : c.place.rec ≡ rec + 1 + length c.raws = counted h (h.count - 0) (log_begin rec) (drop HEADER_LENGTH bytes) in
     let number : c.place.rec ≡ rec + length c.raws + 1 = place ∙ omega arith in
     let behind : c.place.rec - 1 ≡ rec + length c.raws = omega arith in
-    let same : records_in h h.count (drop 40 bytes) ≡ r = records_cut laws h rec (drop 40 bytes) in
+    let same : records_in h h.count (drop HEADER_LENGTH bytes) ≡ r = records_cut laws h rec (drop HEADER_LENGTH bytes) in
     ap (λ (k : ℕ). redo_of rec (raws_before c.raws (unless_broken (cause_of h c) c.place.rec (later k)))) behind
     ∙ decoded_after (cause_of h c) c.place.rec rec (later (rec + length c.raws)) c.raws number
     ∙ ap (redo_after_records rec r) (e (rec + length c.raws))
@@ -216,7 +217,7 @@ decoded_logs laws logs (e ∷ entries) seq rec are =
     (λ k. ahead_in logs (seq + 1) (log_begin k) entries))) (sym (equal e.head.seq seq same))
     ∙ log_decoded laws e.head rec bytes (λ k. ahead_in logs (seq + 1) (log_begin k) entries) later
     (λ k. decoded_logs laws logs entries (seq + 1) k are.1)
-    ∙ ap (λ (h : Header). let r = records_in h h.count (drop 40 bytes) in
+    ∙ ap (λ (h : Header). let r = records_in h h.count (drop HEADER_LENGTH bytes) in
     redo_after_records rec r (later (rec + length r.entries))) (sym head))
 
 pub are_from : (logs : ℕ → Option (List ℕ)) (registry : List LogEntry) (seq : ℕ) → AreToldBy logs registry →

@@ -9,6 +9,7 @@ use Rattle.rl_value.specs.declared.cause.CutFault.TheVariants as faults
 use Rattle.rl_value.specs.declared.verdict.Stop.TheVariants as stops
 use Rattle.rl_ports.specs.Faults.{Told}
 use Rattle.redo_spec.specs.declared.header.Header.{Header}
+use Rattle.redo_wire.specs.declared.header.TheConstants.{HEADER_LENGTH}
 use Rattle.redo_wire.specs.declared.raw.Raw.{Raw}
 use Rattle.redo_wire.specs.declared.cutting.LogPlace.{LogPlace}
 use Rattle.redo_wire.specs.Stream.{Cut as LogCut, Stream, with_raw, cut_off, log_place_behind as past, cut_of_piece, empty_cut, stream_after, end_fault}
@@ -454,7 +455,7 @@ drains known registry place front waiting old new none r e last =
     (ends_told known registry place front old None s.at e.cause e.told s.told)
 
 abbrev pub next_log : Place → Place
-next_log front = record { seq = front.seq + 1; at = 40; done = 0; rec = front.rec }
+next_log front = record { seq = front.seq + 1; at = HEADER_LENGTH; done = 0; rec = front.rec }
 
 none_done : (o : Option LogEntry) → IfSome o (λ e. 0 ≤ e.head.count)
 none_done None = tt

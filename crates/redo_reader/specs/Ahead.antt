@@ -12,6 +12,7 @@ use Rattle.redo_vec.specs.declared.redo_rec.RedoRec.{RedoRec}
 use Rattle.redo_vec.specs.Reading.{Fault, record_at}
 use Rattle.redo_spec.specs.declared.header.Header.{Header}
 use Rattle.redo_spec.specs.Redo.{Redo, redo_ended_by}
+use Rattle.redo_wire.specs.declared.header.TheConstants.{HEADER_LENGTH}
 use Rattle.redo_wire.specs.declared.raw.Raw.{Raw}
 use Rattle.redo_wire.specs.declared.cutting.LogPlace.{LogPlace}
 use Rattle.redo_wire.specs.Stream.{Cut, cut_off}
@@ -47,7 +48,7 @@ cause_of h c = option_or c.cause (missing_after h c)
 
 -- where a log begins, behind this many records
 abbrev pub log_begin : ℕ → LogPlace
-log_begin rec = record { rec = rec + 1; at = 40; done = 0 }
+log_begin rec = record { rec = rec + 1; at = HEADER_LENGTH; done = 0 }
 
 -- what a log gives from this place on, whose bytes are these, and then the later logs, behind so many records
 abbrev pub in_log : Header → LogPlace → List ℕ → (ℕ → Ahead) → Ahead
@@ -95,4 +96,4 @@ told_logs logs entries = map (λ e. (e.head.seq, bytes_or_none (logs e.head.seq)
 
 -- the place before the first record of a log
 abbrev pub first_place : ℕ → ℕ → Place
-first_place seq rec = record { seq = seq; at = 40; done = 0; rec = rec }
+first_place seq rec = record { seq = seq; at = HEADER_LENGTH; done = 0; rec = rec }

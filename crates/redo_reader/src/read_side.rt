@@ -18,7 +18,7 @@ use std::alloc::Global;
 use std::marker::Model;
 
 // Bytes of a block.
-const BLOCK: usize = 65536;
+const BLOCK: usize = 65_536;
 
 // The greatest offset that a place may name.
 const LAST_OFFSET: u64 = 0x3fff_ffff_ffff_ffff;

@@ -5,6 +5,7 @@ ghost use Rattle.log_registry.specs.Registered.{count_of};
 
 use super::*;
 use log_registry::{LogEntry, Registry, inspect};
+use redo_wire::HEADER_LENGTH;
 use rl_ports::{Archive, Failed};
 use rl_value::{Cause, CutFault, Stop};
 use std::alloc::Global;
@@ -15,7 +16,7 @@ const RECORD: [u8; 23] = [
     0, 0, 0, 23, 0, 0, 0, 0, 0, 0, 0, 101, 0, 1, 6, 0, 1, 0, 2, 0, 0, 0, 3,
 ];
 
-const HEAD: [u8; 40] = [
+const HEAD: [u8; HEADER_LENGTH] = [
     0x53, 0x52, 0x4c, 0x31, 0, 1, 0, 1, 0, 0, 0, 9, 0, 0, 0, 1, 0, 0, 0, 0, 0, 0, 0, 0x64, 0, 0, 0,
     0, 0, 0, 0, 0xc8, 0, 0, 0, 3, 0, 0, 0, 0,
 ];
@@ -38,8 +39,8 @@ fn size_of_log(seq: u32) -> usize {
 }
 
 fn byte_of_log(seq: u32, at: usize) -> u8 {
-    if at >= 40 {
-        return RECORD[(at - 40) % 23];
+    if at >= HEADER_LENGTH {
+        return RECORD[(at - HEADER_LENGTH) % 23];
     }
     if at == 15 {
         return (seq % 256) as u8;
@@ -189,7 +190,7 @@ fn reader_of(
 
 const START: Place = Place {
     seq: 1,
-    at: 40,
+    at: HEADER_LENGTH as u64,
     done: 0,
     rec: 0,
 };
@@ -218,7 +219,7 @@ fn a_gap_ends_the_records_for_good(rt: HostRuntime) -> Result<(), Fail> {
 fn a_record_without_its_last_byte_is_malformed(rt: HostRuntime) -> Result<(), Fail> {
     let place = Place {
         seq: 8,
-        at: 40,
+        at: HEADER_LENGTH as u64,
         done: 0,
         rec: 0,
     };

@@ -11,6 +11,7 @@ use Rattle.redo_spec.specs.declared.header.Header.{Header}
 use Rattle.redo_spec.specs.Skips.{Skip}
 use Rattle.redo_spec.specs.Fold.{Folded, fold_of_redo}
 use Rattle.redo_spec.specs.Redo.{Redo, redo_from, fold_of_header, fold_of_log}
+use Rattle.redo_wire.specs.declared.header.TheConstants.{HEADER_LENGTH}
 use Rattle.log_registry.specs.declared.entry.LogEntry.{LogEntry}
 use Rattle.log_registry.specs.declared.fault.RegFault.{RegFault}
 use Rattle.log_registry.specs.declared.fault.RegFault.TheVariants as refusals
@@ -78,7 +79,7 @@ first_done true e = not_below e.head.count
 first_done false e = refl
 
 clamped-first : (e : LogEntry) → clamped_place (e ∷ []) (first_place e.head.seq 0) ≡ first_place e.head.seq 0
-clamped-first e = ap (λ (n : ℕ). let p : Place = record { seq = e.head.seq; at = 40; done = n; rec = 0 } in p)
+clamped-first e = ap (λ (n : ℕ). let p : Place = record { seq = e.head.seq; at = HEADER_LENGTH; done = n; rec = 0 } in p)
     (first_done (e.head.seq == e.head.seq) e)
 
 not_less : (n : ℕ) → nat_lt n n ≡ false

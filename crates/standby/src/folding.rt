@@ -22,12 +22,10 @@ use primary::laws::{first_fold_is_of_the_redo, the_evaluator_folds};
 use primary::{Evaluator, Folded, Plain};
 use redo_reader::laws::the_reader_gives_the_redo;
 use redo_reader::{Place, ReadSide};
+use redo_wire::HEADER_LENGTH;
 use rl_ports::Archive;
 use rl_value::{Cause, HeadFault, NoMemory, Scn, Stop};
 use std::alloc::Global;
-
-// Where the first record of a log stands: behind the header.
-const FIRST: u64 = 40;
 
 /// What came of a fold, and the archive that was read.
 #[derive(Drop)]
@@ -145,7 +143,7 @@ fn folded_entry<A: Archive>(alloc: Global, entry: LogEntry, archive: A) -> Folde
     };
     let place = Place {
         seq: entry.head.seq,
-        at: FIRST,
+        at: HEADER_LENGTH as u64,
         done: 0,
         rec: 0,
     };

@@ -1,6 +1,7 @@
 use Rattle.std.proofs.Common.{◌≤◌, ◌∙◌, sym, subst, take}
 use Rattle.std.specs.Result.{IfOk}
 use Rattle.rl_ports.specs.Faults.{Told}
+use Rattle.redo_wire.specs.declared.header.TheConstants.{HEADER_LENGTH}
 use Rattle.log_registry.specs.Front.{IsFront}
 use Rattle.log_registry.proofs.HeaderLaws.{told_exact, judged_fits, judged_no_fault, judged_long, AskedFor}
 use Rattle.log_registry.proofs.inspecting.look.Goals as goal
@@ -22,5 +23,5 @@ returns-in_ok-count-in-Some-clause-failed g c = λ is. absurd
     (sym c.judge.ensures ∙ is))
 
 pub returns-in_ok-count-in-Some-clause-long : goal.returns-in_ok-count-in-Some-clause-long
-returns-in_ok-count-in-Some-clause-long g c = subst (λ r. IfOk r (λ e. 40 ≤ e.length)) (sym c.judge.ensures)
+returns-in_ok-count-in-Some-clause-long g c = subst (λ r. IfOk r (λ e. HEADER_LENGTH ≤ e.length)) (sym c.judge.ensures)
     (judged_long (take c.in_ok-count-in-Some.count c.read_front.new.front) c.in-Some.size c.args.seq)
