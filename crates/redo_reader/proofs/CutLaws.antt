@@ -44,11 +44,11 @@ stream_walks s piece = given_walks s.fault_told s piece refl
 
 -- ---- the first record of a cut
 
-refused_ok : (o : Option CutFault) (y x : List ℕ × List ℕ) → refused_by o y ≡ Ok x → y ≡ x
+pub refused_ok : (o : Option CutFault) (y x : List ℕ × List ℕ) → refused_by o y ≡ Ok x → y ≡ x
 refused_ok None y x e = cc
 refused_ok (Some fault) y x e = absurd (cc)
 
-first_parts : (b : List ℕ) (x : List ℕ × List ℕ) → first_record b ≡ Ok x → x.0 ++ x.1 ≡ b
+pub first_parts : (b : List ℕ) (x : List ℕ × List ℕ) → first_record b ≡ Ok x → x.0 ++ x.1 ≡ b
 first_parts b x e =
     let size = number_in w32 0 b in
     let count = number_in w16 12 b in

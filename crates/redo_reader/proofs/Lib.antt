@@ -1,4 +1,5 @@
 pub mod CutLaws
 pub mod EntryLaws
+pub mod PlaceLaws
 pub mod RedoLaws
 pub mod StepLaws

@@ -28,10 +28,10 @@ use Rattle.redo_reader.proofs.EntryLaws.{first_of, its_bytes, found, log_is, beh
 
 -- ---- what an open log gives
 
-abbrev gives_ahead : Header → (ℕ → Ahead) → LogCut → Ahead
+abbrev pub gives_ahead : Header → (ℕ → Ahead) → LogCut → Ahead
 gives_ahead h next c = raws_before c.raws (unless_broken (cause_of h c) c.place.rec (next (c.place.rec - 1)))
 
-abbrev later_logs : (ℕ → Option (List ℕ)) → ℕ → List LogEntry → ℕ → Ahead
+abbrev pub later_logs : (ℕ → Option (List ℕ)) → ℕ → List LogEntry → ℕ → Ahead
 later_logs logs seq later rec = ahead_in logs (seq + 1) (log_begin rec) later
 
 ahead_open : (logs : ℕ → Option (List ℕ)) (registry : List LogEntry) (front : Place) (e : LogEntry) (later : List LogEntry)

@@ -1,3 +1,4 @@
 pub mod Ahead
+pub mod Behind
 pub mod Reading
 pub mod Steps
