@@ -1,9 +1,9 @@
 //! Laws over what is ahead of a place.
-ghost use Rattle.std.specs.Prelude.{◌≡◌, ◌≤◌, ◌<◌, ◌+◌, ◌^◌, ℕ, List, [], ◌∷◌, length, Option};
+ghost use Rattle.std.specs.Prelude.{◌≡◌, ◌≤◌, ◌<◌, ◌+◌, ◌^◌, ℕ, List, [], ◌∷◌, ◌++◌, length, drop, Option, None};
 ghost use Rattle.redo_spec.specs.Redo.{redo_from};
 ghost use Rattle.redo_wire.specs.declared.raw.Raw.{Raw};
 ghost use Rattle.log_registry.specs.declared.entry.LogEntry.{LogEntry};
-ghost use Rattle.log_registry.specs.Registered.{AreToldBy, IsRising, entries_from};
+ghost use Rattle.log_registry.specs.Registered.{AreToldBy, IsRising, entry_of, entries_from, with_log};
 ghost use Rattle.redo_reader.specs.declared.place.Place.{Place};
 ghost use Rattle.redo_reader.specs.Ahead.{Ahead, ahead, raws_before, redo_ahead, first_place, told_logs};
 ghost use Rattle.redo_reader.specs.Reading.{place_after_raw, clamped_place};
@@ -48,3 +48,18 @@ pub fn the_reader_gives_the_rest()
 {
     the_reader_gives_the_redo();
 }
+
+/// Where a further log is registered, the records that were ahead stay, and so do the places behind them: its own records may
+/// only come behind those. So a place that was kept may be begun at still.
+pub fn what_was_ahead_stays()
+    // The place behind so many of the records that were ahead is the same.
+    ensures place { (logs : ℕ → Option (List ℕ)) (registry : List LogEntry) (place : Place) (count : ℕ) (entry : LogEntry) →
+        IsRising registry → entry_of entry.head.seq registry ≡ None → count ≤ length (ahead logs registry place).raws →
+        place_ahead logs (with_log entry registry) place count ≡ place_ahead logs registry place count }
+    // The redo of the registered logs goes on behind its records.
+    ensures redo { (logs : ℕ → Option (List ℕ)) (registry : List LogEntry) (seq rec : ℕ) (entry : LogEntry) →
+        IsRising registry → entry_of entry.head.seq registry ≡ None →
+        let old = (redo_from seq rec (told_logs logs (entries_from seq registry))).entries in
+        let new = (redo_from seq rec (told_logs logs (entries_from seq (with_log entry registry)))).entries in
+        new ≡ old ++ drop (length old) new }
+{}
