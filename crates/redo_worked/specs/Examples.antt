@@ -21,7 +21,7 @@ use Rattle.redo_spec.specs.Mark.{resumed}
 use Rattle.redo_spec.specs.Skips.{Skip}
 use Rattle.redo_spec.specs.Fold.{folded, empty_base, fold_of_redo, redo_end, Missed}
 use Rattle.redo_spec.specs.Lines.{fold_lines}
-use Rattle.redo_spec.specs.Work.{Written, Done, work}
+use Rattle.redo_spec.specs.Work.{Written, work}
 use Rattle.redo_spec.specs.Worked.{rec, one_of, start, row, n, emp, head_of, emp_entries, last_line}
 
 -- ---- over rows that are there
