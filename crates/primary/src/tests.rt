@@ -86,142 +86,222 @@ fn two(alloc: Global, scn: u64, first: Vector, second: Vector) -> Result<(Header
     Ok((HEAD, RedoRec { scn, vectors }))
 }
 
-// The dictionary, and a transaction that inserts 7 and commits.
-fn seven(alloc: Global) -> Result<Vec<(Header, RedoRec)>, Fail> {
-    let dictionary = two(alloc, 100, Vector::Table(table(alloc)?), Vector::DictEnd)?;
-    let change = two(alloc, 101, Vector::Start(FIRST), insert(alloc, FIRST, 7)?)?;
-    let commit = one(alloc, 102, Vector::Commit(FIRST))?;
-    Ok(vec![in alloc; dictionary, change, commit]?)
+/// A record of a redo of T.A.
+#[derive(Clone, Copy)]
+enum Step {
+    /// The table, and the end of the dictionary.
+    Dictionary,
+    /// The start of a transaction, and its insert of this ID.
+    Inserts(Xid, i64),
+    /// An insert of this ID, and that it is taken back.
+    Undoes(Xid, i64),
+    Commits(Xid),
+    RollsBack(Xid),
+    /// The end of a dictionary that has ended.
+    EndsTwice,
 }
 
-fn folded(alloc: Global, recs: &[(Header, RedoRec)]) -> Result<Folded, Fail> {
+fn record(alloc: Global, scn: u64, step: Step) -> Result<(Header, RedoRec), Fail> {
+    match step {
+        Step::Dictionary => two(alloc, scn, Vector::Table(table(alloc)?), Vector::DictEnd),
+        Step::Inserts(xid, id) => two(alloc, scn, Vector::Start(xid), insert(alloc, xid, id)?),
+        Step::Undoes(xid, id) => two(alloc, scn, insert(alloc, xid, id)?, Vector::Undo(xid)),
+        Step::Commits(xid) => one(alloc, scn, Vector::Commit(xid)),
+        Step::RollsBack(xid) => one(alloc, scn, Vector::Rollback(xid)),
+        Step::EndsTwice => one(alloc, scn, Vector::DictEnd),
+    }
+}
+
+fn redo_of(alloc: Global, steps: &[(u64, Step)]) -> Result<Vec<(Header, RedoRec)>, Fail> {
+    let mut recs = Vec::new(alloc);
+    for (scn, step) in steps {
+        recs.push(record(alloc, *scn, *step)?)?;
+    }
+    Ok(recs)
+}
+
+// The dictionary, and a transaction that inserts 7 and commits.
+const SEVEN: [(u64, Step); 3] = [
+    (100, Step::Dictionary),
+    (101, Step::Inserts(FIRST, 7)),
+    (102, Step::Commits(FIRST)),
+];
+
+// Then one that inserts 8, and 9 that is taken back, and another that is rolled back.
+const UNDONE: [(u64, Step); 8] = [
+    (100, Step::Dictionary),
+    (101, Step::Inserts(FIRST, 7)),
+    (102, Step::Commits(FIRST)),
+    (103, Step::Inserts(FIRST, 8)),
+    (104, Step::Undoes(FIRST, 9)),
+    (105, Step::Inserts(SECOND, 10)),
+    (106, Step::RollsBack(SECOND)),
+    (107, Step::Commits(FIRST)),
+];
+
+// Then one that inserts 7 again, and behind it a bad record, which is not told.
+const AGAIN: [(u64, Step); 6] = [
+    (100, Step::Dictionary),
+    (101, Step::Inserts(FIRST, 7)),
+    (102, Step::Commits(FIRST)),
+    (103, Step::Inserts(SECOND, 7)),
+    (104, Step::Commits(SECOND)),
+    (50, Step::EndsTwice),
+];
+
+const BAD: [(u64, Step); 4] = [
+    (100, Step::Dictionary),
+    (101, Step::Inserts(FIRST, 7)),
+    (102, Step::Commits(FIRST)),
+    (103, Step::EndsTwice),
+];
+
+/// Why a fold goes no further.
+#[derive(Clone, Copy)]
+enum End {
+    Drained,
+    /// This record is bad.
+    Malformed(u64),
+    /// The commit of this SCN inserts a key that is there.
+    Exists(u64),
+}
+
+fn ends_so(end: &Verdict, wanted: End) -> bool {
+    match (end, wanted) {
+        (Verdict::Stopped(Stop::Drained), End::Drained) => true,
+        (Verdict::Stopped(Stop::Malformed { rec, .. }), End::Malformed(number)) => *rec == number,
+        (
+            Verdict::Mismatch {
+                scn,
+                miss: Miss::Exists(_),
+                ..
+            },
+            End::Exists(commit),
+        ) => *scn == commit,
+        _ => false,
+    }
+}
+
+// Table 1 has the rows of these IDs, in rising order of its key, and no others.
+fn has_ids(tables: &PlainTables, ids: &[i64]) -> bool {
+    let mut rest = ids;
+    for row in tables.rows(1) {
+        let ([Value::Number(id)], [first, others @ ..]) = (row.values(), rest) else {
+            return false;
+        };
+        if id != first {
+            return false;
+        }
+        rest = others;
+    }
+    rest.is_empty() && tables.count(1) == ids.len()
+}
+
+fn shows(shown: &Folded, n: u64, scn: u64, ids: &[i64], end: End) -> bool {
+    shown.n == n
+        && shown.scn == scn
+        && shown.dict.def(1).is_some()
+        && has_ids(&shown.tables, ids)
+        && ends_so(&shown.end, end)
+}
+
+fn folded(alloc: Global, steps: &[(u64, Step)]) -> Result<Folded, Fail> {
+    folded_redo(alloc, redo_of(alloc, steps)?.as_slice())
+}
+
+fn folded_redo(alloc: Global, recs: &[(Header, RedoRec)]) -> Result<Folded, Fail> {
     let skips = Skips::new(alloc);
     Ok(fold_plain(alloc, Plain::first(alloc, 1, 99), recs, &skips)?)
 }
 
-// The IDs of the rows of table 1, in rising order of its key.
-fn ids(alloc: Global, tables: &PlainTables) -> Result<Vec<i64>, Fail> {
-    let mut ids = Vec::new(alloc);
-    for row in tables.rows(1) {
-        if let [Value::Number(id), ..] = row.values() {
-            ids.push(*id)?;
-        }
+#[test]
+fn a_fold_shows_what_its_commits_leave(rt: HostRuntime) -> Result<(), Fail> {
+    let alloc = rt.alloc();
+    let cases = [
+        (
+            "a commit",
+            SEVEN.as_slice(),
+            1,
+            102,
+            [7].as_slice(),
+            End::Drained,
+        ),
+        (
+            "undone and rolled back changes",
+            UNDONE.as_slice(),
+            2,
+            107,
+            [7, 8].as_slice(),
+            End::Drained,
+        ),
+        (
+            "a key that is there",
+            AGAIN.as_slice(),
+            1,
+            102,
+            [7].as_slice(),
+            End::Exists(104),
+        ),
+        (
+            "a bad record",
+            BAD.as_slice(),
+            1,
+            102,
+            [7].as_slice(),
+            End::Malformed(4),
+        ),
+    ];
+    for (name, steps, n, scn, ids, end) in cases {
+        let shown = folded(alloc, steps)?;
+        assert!(rt; shows(&shown, n, scn, ids, end), "{name}");
     }
-    Ok(ids)
-}
-
-#[test]
-fn a_commit_is_shown(rt: HostRuntime) -> Result<(), Fail> {
-    let alloc = rt.alloc();
-    let recs = seven(alloc)?;
-    let shown = folded(alloc, recs.as_slice())?;
-    assert_eq!(rt; shown.n, 1);
-    assert_eq!(rt; shown.scn, 102);
-    assert_eq!(rt; shown.tables.count(1), 1);
-    assert_eq!(rt; shown.dict.def(1).is_some(), true);
-    let drained = matches!(&shown.end, Verdict::Stopped(Stop::Drained));
-    assert_eq!(rt; drained, true);
-    let Some(row) = shown.tables.rows(1).next() else {
-        return Err(Fail::from("a row"));
-    };
-    let wanted = [Value::Number(7)];
-    let same = row.values() == wanted.as_slice();
-    assert_eq!(rt; same, true);
     Ok(())
 }
 
-#[test]
-fn undone_and_rolled_back_changes_are_not_shown(rt: HostRuntime) -> Result<(), Fail> {
-    let alloc = rt.alloc();
-    let mut recs = seven(alloc)?;
-    let begin = two(alloc, 103, Vector::Start(FIRST), insert(alloc, FIRST, 8)?)?;
-    let undo = two(alloc, 104, insert(alloc, FIRST, 9)?, Vector::Undo(FIRST))?;
-    recs.push(begin)?;
-    recs.push(undo)?;
-    let other = two(
-        alloc,
-        105,
-        Vector::Start(SECOND),
-        insert(alloc, SECOND, 10)?,
-    )?;
-    recs.push(other)?;
-    recs.push(one(alloc, 106, Vector::Rollback(SECOND))?)?;
-    recs.push(one(alloc, 107, Vector::Commit(FIRST))?)?;
-    let shown = folded(alloc, recs.as_slice())?;
-    assert_eq!(rt; shown.n, 2);
-    assert_eq!(rt; shown.tables.count(1), 2);
-    let ids = ids(alloc, &shown.tables)?;
-    let same = matches!(ids.as_slice(), [7, 8]);
-    assert_eq!(rt; same, true);
-    Ok(())
+// The fold of a COMMIT of no open transaction, and then of a dictionary.
+fn ended_fold(alloc: Global) -> Result<Evaluator, Fail> {
+    let skips = Skips::new(alloc);
+    let fold = Evaluator::new(alloc, Plain::first(alloc, 1, 99))?;
+    let (head, bad) = record(alloc, 100, Step::Commits(FIRST))?;
+    let fold = fold.take(&head, bad, &skips)?;
+    if fold.is_going() {
+        return Err(Fail::new("the fold has ended"));
+    }
+    let (head, dictionary) = record(alloc, 100, Step::Dictionary)?;
+    Ok(fold.take(&head, dictionary, &skips)?)
 }
 
-#[test]
-fn a_key_that_is_there_is_a_mismatch(rt: HostRuntime) -> Result<(), Fail> {
-    let alloc = rt.alloc();
-    let mut recs = seven(alloc)?;
-    let again = two(alloc, 103, Vector::Start(SECOND), insert(alloc, SECOND, 7)?)?;
-    recs.push(again)?;
-    recs.push(one(alloc, 104, Vector::Commit(SECOND))?)?;
-    // A bad record behind it is not told.
-    recs.push(one(alloc, 50, Vector::DictEnd)?)?;
-    let shown = folded(alloc, recs.as_slice())?;
-    assert_eq!(rt; shown.n, 1);
-    assert_eq!(rt; shown.scn, 102);
-    let exists = matches!(
-        &shown.end,
-        Verdict::Mismatch {
-            scn: 104,
-            miss: Miss::Exists(_),
-            ..
-        }
-    );
-    assert_eq!(rt; exists, true);
-    Ok(())
-}
-
-#[test]
-fn a_bad_record_ends_the_fold(rt: HostRuntime) -> Result<(), Fail> {
-    let alloc = rt.alloc();
-    let mut recs = seven(alloc)?;
-    recs.push(one(alloc, 103, Vector::DictEnd)?)?;
-    let shown = folded(alloc, recs.as_slice())?;
-    assert_eq!(rt; shown.n, 1);
-    let bad = matches!(&shown.end, Verdict::Stopped(Stop::Malformed { rec: 4, .. }));
-    assert_eq!(rt; bad, true);
-    Ok(())
+fn shows_nothing(shown: &Folded) -> bool {
+    shown.n == 0 && !shown.whole && shown.dict.tables().is_empty()
 }
 
 #[test]
 fn a_fold_that_has_ended_takes_no_more(rt: HostRuntime) -> Result<(), Fail> {
-    let alloc = rt.alloc();
-    let skips = Skips::new(alloc);
-    let fold = Evaluator::new(alloc, Plain::first(alloc, 1, 99))?;
-    let bad = one(alloc, 100, Vector::Commit(FIRST))?;
-    let fold = fold.take(&HEAD, bad.1, &skips)?;
-    assert_eq!(rt; fold.is_going(), false);
-    let dictionary = two(alloc, 100, Vector::Table(table(alloc)?), Vector::DictEnd)?;
-    let fold = fold.take(&HEAD, dictionary.1, &skips)?;
-    assert_eq!(rt; fold.is_going(), false);
+    let fold = ended_fold(rt.alloc())?;
+    let over = !fold.is_going();
     let shown = fold.finish(Stop::Drained);
-    assert_eq!(rt; shown.n, 0);
-    assert_eq!(rt; shown.whole, false);
-    assert_eq!(rt; shown.dict.tables().len(), 0);
+    assert!(rt; over && shows_nothing(&shown));
     Ok(())
+}
+
+// Skips the first transaction from the commit after this number on.
+fn skipping(alloc: Global, from: u64) -> Result<Skips, Fail> {
+    let mut skips = Skips::new(alloc);
+    let rule = SkipRule::Transaction(FIRST);
+    match skips.add(SkipEntry { rule, from }) {
+        Ok(()) => Ok(skips),
+        Err(_) => Err(Fail::new("a rule")),
+    }
 }
 
 #[test]
 fn a_rule_counts_from_the_next_commit(rt: HostRuntime) -> Result<(), Fail> {
     let alloc = rt.alloc();
-    let recs = seven(alloc)?;
-    for (from, rows) in [(0, 0), (1, 1)] {
-        let mut skips = Skips::new(alloc);
-        let rule = SkipRule::Transaction(FIRST);
-        let taken = skips.add(SkipEntry { rule, from }).is_ok();
-        assert_eq!(rt; taken, true);
+    let recs = redo_of(alloc, &SEVEN)?;
+    for (from, ids) in [(0, [].as_slice()), (1, [7].as_slice())] {
+        let skips = skipping(alloc, from)?;
         let shown = fold_plain(alloc, Plain::first(alloc, 1, 99), recs.as_slice(), &skips)?;
-        assert_eq!(rt; shown.n, 1);
-        assert_eq!(rt; shown.tables.count(1), rows, "from {from}");
+        assert!(rt; shows(&shown, 1, 102, ids, End::Drained), "from {from}");
     }
     Ok(())
 }
@@ -367,9 +447,9 @@ fn a_unique_value_has_the_owner_that_it_has_now(rt: HostRuntime) -> Result<(), F
     ];
     for (count, code, owner, n) in cases {
         let recs = coded_redo(alloc, count, code)?;
-        let shown = folded(alloc, recs.as_slice())?;
-        assert_eq!(rt; owner_told(&shown.end), owner, "{code} after {count}");
-        assert_eq!(rt; shown.n, n, "{code} after {count}");
+        let shown = folded_redo(alloc, recs.as_slice())?;
+        let told = owner_told(&shown.end) == owner && shown.n == n;
+        assert!(rt; told, "{code} after {count}");
     }
     Ok(())
 }
@@ -475,19 +555,24 @@ fn code_shown(shown: &Folded) -> Option<i64> {
     }
 }
 
-#[test]
-fn rows_wait_for_the_dictionary(rt: HostRuntime) -> Result<(), Fail> {
-    let alloc = rt.alloc();
-    let fold = over_rows(alloc, &[LOADED])?;
-    let Some(fold) = over_dictionary(alloc, fold)? else {
+// The fold over the row of code 7, by a dictionary that comes behind it, of the update to code 8.
+fn updated_fold(alloc: Global) -> Result<Evaluator, Fail> {
+    let Some(fold) = over_dictionary(alloc, over_rows(alloc, &[LOADED])?)? else {
         return Err(Fail::new("the rows are sound"));
     };
-    let fold = updates(alloc, fold)?;
-    assert_eq!(rt; fold.is_going(), true);
+    updates(alloc, fold)
+}
+
+fn shows_code(shown: &Folded, code: i64) -> bool {
+    shown.n == 1 && shown.tables.count(2) == 1 && code_shown(shown) == Some(code)
+}
+
+#[test]
+fn rows_wait_for_the_dictionary(rt: HostRuntime) -> Result<(), Fail> {
+    let fold = updated_fold(rt.alloc())?;
+    let going = fold.is_going();
     let shown = fold.finish(Stop::Drained);
-    assert_eq!(rt; shown.n, 1);
-    assert_eq!(rt; shown.tables.count(2), 1);
-    assert_eq!(rt; code_shown(&shown), Some(8));
+    assert!(rt; going && shows_code(&shown, 8));
     Ok(())
 }
 
@@ -514,12 +599,11 @@ fn rows_that_are_no_sound_tables_are_told(rt: HostRuntime) -> Result<(), Fail> {
 }
 
 #[test]
-fn a_copy_has_as_many_rows(rt: HostRuntime) -> Result<(), Fail> {
+fn a_copy_is_equal(rt: HostRuntime) -> Result<(), Fail> {
     let alloc = rt.alloc();
-    let recs = seven(alloc)?;
-    let shown = folded(alloc, recs.as_slice())?.copy()?;
-    assert_eq!(rt; shown.tables.count(1), 1);
+    let shown = folded(alloc, &SEVEN)?.copy()?;
+    assert!(rt; shows(&shown, 1, 102, &[7], End::Drained));
     let start = Plain::first(alloc, 1, 99).copy()?;
-    assert_eq!(rt; start.scn, 99);
+    assert!(rt; start.scn == 99 && start.tables.count(1) == 0);
     Ok(())
 }
