@@ -1,5 +1,5 @@
 -- The next commit applied, as the steps of a progress say it.
-use Rattle.std.proofs.Common.{◌≡◌, ℕ, ◌+◌, ◌≤◌, nat_lt, List, [], arith, refl, sym, ap, ◌∙◌, subst, Bool, true, false, cond, not, Some, None, Result, Ok, Err}
+use Rattle.std.proofs.Common.{◌≡◌, ℕ, ◌+◌, ◌≤◌, nat_lt, List, [], ◌∷◌, arith, refl, sym, ap, ◌∙◌, subst, Bool, true, false, cond, not, Some, None, Result, Ok, Err}
 use Rattle.std.proofs.lemmas.Bool.Decides.{nat_tests}
 use Rattle.rl_value.specs.declared.pos.Pos.{Pos}
 use Rattle.rl_value.specs.declared.miss.Miss.{Miss}
@@ -15,7 +15,11 @@ use Rattle.primary.specs.Progress.{tables_shown, waiting_until, FoldState, Going
 use Rattle.primary.specs.Running.{TellsMiss}
 use Rattle.primary.specs.declared.effects.EffectsFault.{EffectsFault}
 use Rattle.primary.specs.declared.effects.EffectsFault.TheVariants as faults
-use Rattle.primary.proofs.TableLaws.{definitions_assembled}
+
+-- the tables are those of the dictionary
+pub definitions_assembled : (ts : List TableRow) (by : RowsById) → definitions_of (assembled ts by) ≡ ts
+definitions_assembled [] by = refl
+definitions_assembled (t ∷ ts) by = ap (λ us. t ∷ us) (definitions_assembled ts by)
 
 pub shown_whole : (whole : Bool) (ts : List TableRow) (by : RowsById) → whole ≡ true → tables_shown whole ts by ≡ assembled ts by
 shown_whole whole ts by is = let none : Tables = [] in ap (λ b. cond b (assembled ts by) none) is

@@ -1,14 +1,9 @@
-pub mod MapLemmas
 pub mod WalkLaws
 pub mod LiveLaws
 pub mod FitLaws
 pub mod HistoryFit
 pub mod DictionaryLaws
 pub mod FoldsLaw
-pub mod TableLaws
 pub mod ApplyLaws
 pub mod StepLaws
-pub mod UniqueLaws
-pub mod WriteLaws
-pub mod CheckLaws
 pub mod SoundLaws

@@ -1,9 +1,9 @@
 -- The surviving changes of open transactions, vector by vector: beside the standing, and beside the history.
-use Rattle.std.proofs.Common.{◌≡◌, ℕ, ◌==◌, List, [], refl, sym, ap, ◌∙◌, subst, Bool, true, false, cond, not, ◌&&◌, Option, Some, None, is_some, arith}
+use Rattle.std.proofs.Common.{◌≡◌, ℕ, ◌==◌, List, [], refl, sym, ap, ◌∙◌, subst, Bool, true, false, cond, not, ◌&&◌, T, Option, Some, None, is_some, arith}
 use Rattle.std.specs.declared.cmp.Ordering.{Ordering}
 use Rattle.std.specs.declared.cmp.Ordering.TheVariants.{Less, Equal, Greater}
 use Rattle.std.specs.Ordering.{nat_cmp, is_eq, ordering_then, eq_by_cmp}
-use Rattle.std.specs.Cmp.{IsTotalOrder, then_total, on_total, nat_cmp_total, eq_by_cmp_equiv}
+use Rattle.std.specs.Cmp.{eq_by_cmp_equiv}
 use Rattle.std.specs.List.Sorted.{IsStrictlySortedBy}
 use Rattle.std.specs.Option.{option_map}
 use Rattle.std.specs.Map.{keys_of}
@@ -16,7 +16,15 @@ use Rattle.rl_value.specs.Order.{xid_cmp, xid_total}
 use Rattle.rl_value.specs.declared.xid.Xid.{Xid}
 use Rattle.redo_spec.specs.History.{Placed, same_xid}
 use Rattle.primary.specs.Progress.{OpenChanges, changes_of, with_opened, without_closed, with_changes}
-use Rattle.primary.proofs.MapLemmas.{find_is_lookup, put_is_insert, sorted_is, is_sorted_by, where_is_remove, is_true, holds, left_true, right_true}
+use Rattle.plain_store.proofs.MapLemmas.{find_is_lookup, put_is_insert, sorted_is, is_sorted_by, where_is_remove, left_true, right_true}
+
+-- a test that holds, in two words
+is_true : (b : Bool) → T b → b ≡ true
+is_true true h = refl
+is_true false h = absurd h
+
+holds : (b : Bool) → b ≡ true → T b
+holds b e = subst T (sym e) tt
 
 -- ---- transaction ids
 

@@ -39,12 +39,12 @@ use Rattle.primary.specs.Cells.{HaveCells, HasCells, AreOfCells}
 use Rattle.primary.specs.Progress.{OpenChanges, changes_of, FoldState, Progress, Going, Ended, kept_of, tables_or, progress_or_end, progress_after_effects, progress_after_commit, live_after, progress_after_vector, progress_after_vectors, tables_shown, waiting_until, tables_then, state_at_record, RowsAreSound, NoneWait, progress_unless_bad, progress_after_record, progress_after_records, end_of}
 use Rattle.primary.specs.Running.{AreAccepted, FitsStanding}
 use Rattle.primary.specs.Starts.{IsStart, first_state, progress_after, first_progress, fold_from}
+use Rattle.primary.proofs.ApplyLaws.{definitions_assembled}
 use Rattle.primary.proofs.DictionaryLaws.{dictionary_kept, record_keeps}
 use Rattle.primary.proofs.FitLaws.{none_first, none_second, changed_at, mapped_is, fits_after}
 use Rattle.primary.proofs.FoldsLaw.{IfGoing, Waits, waits_vectors, waits_record, progress_folds}
 use Rattle.primary.proofs.LiveLaws.{opened_changes, closed_changes, rechanged_changes, nothing_rises}
 use Rattle.primary.proofs.StepLaws.{commit_is, sound_then, sound_without}
-use Rattle.primary.proofs.TableLaws.{definitions_assembled}
 use Rattle.primary.proofs.WalkLaws.{halted}
 
 -- ---- results

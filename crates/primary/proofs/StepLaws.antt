@@ -1,5 +1,5 @@
 -- The step over a record, vector by vector: what holds between two vectors, and what one more makes of it.
-use Rattle.std.proofs.Common.{◌≡◌, ℕ, ◌+◌, ◌≤◌, nat_lt, Err, IfSome, List, [], ◌∷◌, length, refl, sym, ap, ◌∙◌, subst, Bool, true, false, cond, Option, Some, None, unwrap_or, arith}
+use Rattle.std.proofs.Common.{◌≡◌, ℕ, ◌+◌, ◌≤◌, nat_lt, Err, IfSome, List, [], ◌∷◌, length, refl, sym, ap, ◌∙◌, subst, Bool, true, false, cond, Option, Some, None, is_some, unwrap_or, arith}
 use Rattle.rl_value.specs.declared.pos.Pos.{Pos}
 use Rattle.rl_value.specs.declared.cause.LawFault.{LawFault}
 use Rattle.rl_value.specs.declared.cause.Cause.TheVariants as causes
@@ -12,7 +12,7 @@ use Rattle.redo_vec.specs.declared.vector.Vector.{Vector}
 use Rattle.redo_vec.specs.declared.vector.Vector.TheVariants.{Start, Change as OfChange, Undo, Commit, Rollback, Table, DictEnd}
 use Rattle.redo_spec.specs.declared.header.Header.{Header}
 use Rattle.redo_spec.specs.Dictionary.{Dictionary}
-use Rattle.redo_spec.specs.Tables.{Tables, RowsById, assembled, empty_tables, definitions_of}
+use Rattle.redo_spec.specs.Tables.{Tables, RowsById, empty_tables, definitions_of}
 use Rattle.redo_law.specs.Calls.{Judges, Leaves, standing_of}
 use Rattle.primary.specs.declared.plain.Plain.{Plain}
 use Rattle.redo_law.specs.declared.fault.AdmitFault.{AdmitFault}
@@ -24,15 +24,17 @@ use Rattle.redo_spec.specs.Skips.{Skip}
 use Rattle.redo_spec.specs.Fold.{effects}
 use Rattle.row_apply.specs.Soundness.{AreSound}
 use Rattle.primary.specs.Progress.{OpenChanges, changes_of, FoldState, Progress, Going, Ended, held_at, live_after, commit_of, progress_with_commit, progress_after_effects, progress_or_end, tables_or, kept_of, recs_of, progress_with_vector, progress_after_vectors, tables_shown, waiting_until, tables_then, state_at_record, RowsAreSound, progress_unless_bad, progress_after_record}
-use Rattle.primary.specs.Running.{AreAccepted, FitsStanding, AreKept, KeepsRows, IsRunning, MayCommit, fold_state_of, tables_of, progress_of}
+use Rattle.primary.specs.Running.{AreAccepted, FitsStanding, KeepsRows, IsRunning, MayCommit, fold_state_of, tables_of, progress_of}
 use Rattle.primary.specs.declared.running.Running.{Running}
 use Rattle.primary.proofs.FitLaws.{none_first, none_second, no_fault, is_whole, fits_after}
 use Rattle.primary.proofs.DictionaryLaws.{dictionary_kept, record_keeps, left_same}
-use Rattle.primary.specs.declared.unique_index.UniqueIndex.{UniqueIndex}
 use Rattle.primary.proofs.FoldsLaw.{ended_vectors}
 use Rattle.primary.proofs.LiveLaws.{nothing_rises}
-use Rattle.primary.proofs.TableLaws.{rows_counted}
 use Rattle.primary.proofs.WalkLaws.{halted}
+
+pub absent : {A : Type 0} (o : Option A) → is_some o ≡ false → o ≡ None
+absent None e = refl
+absent (Some x) e = absurd (cc)
 
 -- before the first record of a fold no transaction is open
 pub fits_first : (start : Plain) → FitsStanding (standing_of start.law) []

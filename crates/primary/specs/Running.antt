@@ -1,5 +1,5 @@
 -- What an evaluator keeps while its fold goes on, beside the progress that it is seen as.
-use Rattle.std.specs.Prelude.{◌≡◌, ⊤, ℕ, List, [], true, false, Option, Some, None, Result, Err, is_some}
+use Rattle.std.specs.Prelude.{◌≡◌, ⊤, List, [], true, false, Option, Some, None, Result, Err, is_some}
 use Rattle.std.specs.List.{AllByRecursion}
 use Rattle.std.specs.List.Sorted.{IsStrictlySortedBy}
 use Rattle.std.specs.Map.{keys_of}
@@ -10,14 +10,12 @@ use Rattle.redo_vec.specs.declared.table.TableRow.{TableRow}
 use Rattle.redo_spec.specs.ChangeForm.{change_fault}
 use Rattle.redo_spec.specs.History.{Placed}
 use Rattle.redo_spec.specs.Standing.{Standing, is_open}
-use Rattle.redo_spec.specs.Tables.{Tables, RowsById}
+use Rattle.redo_spec.specs.Tables.{Tables}
 use Rattle.redo_spec.specs.Fold.{Missed}
-use Rattle.redo_spec.specs.Tables.{assembled, row_count}
 use Rattle.row_apply.specs.Soundness.{AreSound}
+use Rattle.plain_store.specs.Kept.{AreKept}
 use Rattle.primary.specs.Progress.{OpenChanges, changes_of, tables_shown, waiting_until, FoldState, Progress, Going, Ended, held_at}
-use Rattle.primary.specs.Unique.{IsIndexed}
 use Rattle.primary.specs.declared.running.Running.{Running}
-use Rattle.primary.specs.declared.unique_index.UniqueIndex.{UniqueIndex}
 use Rattle.primary.specs.declared.effects.EffectsFault.{EffectsFault}
 use Rattle.primary.specs.declared.effects.EffectsFault.TheVariants as faults
 
@@ -64,11 +62,7 @@ abbrev pub progress_of : Option Verdict → Running → Progress
 progress_of None r = Going (fold_state_of r)
 progress_of (Some v) r = Ended (held_at (fold_state_of r) v)
 
--- beside rows: the index of their unique values, and how many they are
-pub record AreKept (ts : List TableRow) (by : RowsById) (index : UniqueIndex) (count : ℕ) : Type 0 where
-  pub indexed : IsIndexed ts by index
-  pub counted : count ≡ row_count (assembled ts by)
-
+-- what it keeps beside its rows is theirs
 abbrev pub KeepsRows : Running → Type 0
 KeepsRows r = AreKept r.law.dictionary.tables r.tables r.index r.count
 

@@ -7,10 +7,11 @@ ghost use Rattle.row_apply.specs.Soundness.{AreSound};
 ghost use Rattle.primary.specs.Progress.{kept_of};
 ghost use Rattle.primary.specs.Running.{AreAccepted, TellsMiss};
 
-use crate::based::Based;
+use plain_store::Based;
 use redo_dict::Dict;
 use redo_vec::Change;
 use rl_value::{Miss, Pos};
+use row_apply::laws::no_writes_change_nothing;
 use row_apply::{EffectFault, Overlay, effect};
 use skip_guard::Skips;
 
@@ -42,6 +43,7 @@ pub fn effects_of(
     ensures sound { OnOk result (AreSound (overlaid (assembled base.now.dictionary.tables base.now.rows) over.new)) }
     ensures of_tables { OnOk result (IsTrue (are_of base.now.dictionary.tables over.new)) }
 {
+    no_writes_change_nothing();
     let mut rest = changes;
     while let [(pos, change), more @ ..] = rest {
         if !skips.skipped(base.dict(), change, n) {

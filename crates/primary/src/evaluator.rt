@@ -2,18 +2,16 @@
 ghost use Rattle.std.specs.Prelude.{◌≡◌, ◌+◌, ◌<◌, ◌≤◌, ◌^◌, [], IfOk, OnOk, Err, true, false};
 ghost use Rattle.redo_spec.specs.Tables.{assembled};
 ghost use Rattle.row_apply.specs.Soundness.{AreSound};
-ghost use Rattle.primary.specs.Running.{AreKept};
+ghost use Rattle.plain_store.specs.Kept.{AreKept};
 ghost use Rattle.primary.specs.Progress.{is_going, recs_of, OnGoing, RowsAreSound, progress_after_record, end_of};
 ghost use Rattle.primary.specs.Starts.{IsStart, first_progress, folded_of};
 ghost use Rattle.primary.specs.declared.fault.TakeFault.TheVariants.{Unsound};
 
 use crate::fault::TakeFault;
-use crate::indexing::{Kept, keep};
 use crate::live_changes::LiveChanges;
 use crate::plain::{Folded, Plain};
-use crate::plain_tables::PlainTables;
 use crate::running::Running;
-use crate::unique_index::UniqueIndex;
+use plain_store::{KeepFault, Kept, PlainTables, UniqueIndex, keep};
 use redo_dict::Dict;
 use redo_law::Law;
 use redo_spec::Header;
@@ -162,7 +160,7 @@ fn kept_first(alloc: Global, dict: &Dict, tables: &PlainTables) -> Result<Kept, 
     }
     match keep(alloc, dict, tables) {
         Ok(kept) => Ok(kept),
-        Err(TakeFault::Unsound) => unreachable!(),
-        Err(TakeFault::Memory) => Err(NoMemory),
+        Err(KeepFault::Unsound) => unreachable!(),
+        Err(KeepFault::Memory) => Err(NoMemory),
     }
 }

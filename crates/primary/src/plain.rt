@@ -3,7 +3,7 @@ ghost use Rattle.std.specs.Prelude.{◌≡◌, List, [], IfOk};
 ghost use Rattle.redo_spec.specs.History.{Entry};
 ghost use Rattle.primary.specs.Starts.{IsStart, first_start};
 
-use crate::plain_tables::PlainTables;
+use plain_store::PlainTables;
 use redo_dict::Dict;
 use redo_law::LawStart;
 use rl_value::{NoMemory, Scn, Verdict};

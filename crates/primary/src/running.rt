@@ -1,12 +1,8 @@
 //! A fold that goes on: what it keeps between two records, and the step over one.
-use crate::based::Based;
 use crate::effects::{EffectsFault, effects_of};
 use crate::fault::TakeFault;
-use crate::indexing::{Kept, keep};
 use crate::live_changes::{LiveChanges, Survivors};
-use crate::plain_tables::PlainTables;
-use crate::unique_index::UniqueIndex;
-use crate::writing::put_in;
+use plain_store::{Based, KeepFault, PlainTables, UniqueIndex, keep, put_in};
 use redo_law::{AdmitFault, Law};
 use redo_spec::Header;
 use redo_vec::{Change, RedoRec};
@@ -45,7 +41,7 @@ impl Running {
     ghost use Rattle.row_apply.specs.Soundness.{AreSound};
     ghost use Rattle.primary.specs.Progress.{progress_after_commit, kept_of, progress_with_commit, tables_shown, RowsAreSound, progress_after_record, Going};
     ghost use Rattle.primary.specs.Running.{AreAccepted, TellsMiss, fold_state_of, progress_of, tables_of, KeepsRows, IsRunning, MayCommit};
-    ghost use Rattle.primary.specs.Unique.{IsIndexed};
+    ghost use Rattle.plain_store.specs.Unique.{IsIndexed};
     ghost use Rattle.primary.specs.declared.fault.TakeFault.TheVariants.{Unsound};
 
     // What the changes of the next commit write that are not passed over.
@@ -167,9 +163,13 @@ impl Running {
         if self.whole || !self.law.dict().finished() {
             return Ok(());
         }
-        let Kept { index, count } = keep(self.alloc, self.law.dict(), &self.tables)?;
-        self.index = index;
-        self.count = count;
+        let kept = match keep(self.alloc, self.law.dict(), &self.tables) {
+            Ok(kept) => kept,
+            Err(KeepFault::Unsound) => return Err(TakeFault::Unsound),
+            Err(KeepFault::Memory) => return Err(TakeFault::Memory),
+        };
+        self.index = kept.index;
+        self.count = kept.count;
         self.whole = true;
         Ok(())
     }

@@ -3,8 +3,9 @@ use Rattle.redo_spec.specs.Dictionary.{Dictionary}
 use Rattle.redo_spec.specs.Standing.{Standing}
 use Rattle.redo_spec.specs.Tables.{Tables, assembled}
 use Rattle.row_apply.specs.Soundness.{AreSound}
+use Rattle.plain_store.specs.Kept.{AreKept}
 use Rattle.primary.specs.Progress.{OpenChanges, tables_shown}
-use Rattle.primary.specs.Running.{AreKept, FitsStanding}
+use Rattle.primary.specs.Running.{FitsStanding}
 use Rattle.primary.proofs.ApplyLaws.{shown_whole}
 use Rattle.primary.proofs.StepLaws.{fits_first}
 use Rattle.primary.proofs.evaluator.Evaluator.new.Goals as goal

@@ -2,8 +2,7 @@ use Rattle.std.proofs.Common.{◌≡◌, ◌∙◌, ◌+◌, ◌≤◌, sym, ap,
 use Rattle.rl_value.specs.declared.verdict.Verdict.{Verdict}
 use Rattle.primary.specs.Progress.{Progress, Going, progress_after_record, recs_of}
 use Rattle.primary.specs.Running.{fold_state_of, progress_of}
-use Rattle.primary.proofs.MapLemmas.{absent}
-use Rattle.primary.proofs.StepLaws.{recs_after}
+use Rattle.primary.proofs.StepLaws.{absent, recs_after}
 use Rattle.primary.proofs.evaluator.Evaluator.take.Goals as goal
 
 pub returns-clause-records : goal.returns-clause-records

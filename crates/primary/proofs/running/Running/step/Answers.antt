@@ -1,4 +1,4 @@
-use Rattle.std.proofs.Common.{◌≡◌, ◌∙◌, ◌+◌, ◌∷◌, sym, ap, subst, Err, Bool, false, Option, refl, List}
+use Rattle.std.proofs.Common.{◌≡◌, ◌∙◌, ◌∷◌, sym, ap, subst, Err, Bool, false, Option, refl, List}
 use Rattle.std.specs.Vec.Iter.{into_iter_items}
 use Rattle.rl_value.specs.declared.verdict.Verdict.{Verdict}
 use Rattle.redo_vec.specs.declared.vector.Vector.{Vector}
@@ -7,7 +7,8 @@ use Rattle.primary.specs.Progress.{Going, tables_shown, waiting_until, progress_
 use Rattle.redo_spec.specs.Dictionary.{Dictionary}
 use Rattle.redo_spec.specs.Tables.{Tables, assembled}
 use Rattle.row_apply.specs.Soundness.{AreSound}
-use Rattle.primary.specs.Running.{AreKept, fold_state_of, progress_of}
+use Rattle.plain_store.specs.Kept.{AreKept}
+use Rattle.primary.specs.Running.{fold_state_of, progress_of}
 use Rattle.primary.specs.declared.fault.TakeFault.TheVariants.{Unsound}
 use Rattle.primary.specs.declared.running.Running.{Running}
 use Rattle.primary.proofs.StepLaws.{Steps, bad_ends, bad_sound, fault_told, left_told, still_whole, steps_begin, steps_more, may_commit}

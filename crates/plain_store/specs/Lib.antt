@@ -1,0 +1,5 @@
+pub mod ById
+pub mod Unique
+pub mod Checked
+pub mod Beneath
+pub mod Kept

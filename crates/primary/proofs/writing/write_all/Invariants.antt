@@ -1,9 +1,0 @@
-use Rattle.std.specs.Vec.Iter.{into_iter_items}
-use Rattle.primary.specs.ById.{rows_after_writes}
-use Rattle.primary.proofs.WriteLaws.{Indexing}
-use Rattle.primary.proofs.writing.write_all.Given as goal
-
--- what is left is to be written, and the index leads to all that is not
-abbrev pub invariant-loop-write : goal.invariant-loop-write
-invariant-loop-write l = Indexing l.dict.tables (rows_after_writes l.initial.tables l.fn.writes) l.tables
-    (into_iter_items l.write-iterator) l.index
