@@ -1,14 +1,13 @@
 //! Rows as the tables that a change finds.
-ghost use Rattle.std.specs.Prelude.{◌≡◌, ◌<◌, length, IsSome, IfSome, false};
+ghost use Rattle.std.specs.Prelude.{◌≡◌, ◌<◌, length, false};
 ghost use Rattle.std.specs.List.{list_any};
 ghost use Rattle.std.specs.Option.{option_copied};
 ghost use Rattle.redo_spec.specs.ConflictKeys.{is_null};
 ghost use Rattle.redo_spec.specs.Dictionary.{table_of};
-ghost use Rattle.redo_spec.specs.Tables.{Tables, definitions_of, assembled, rows_by, owner_in};
-ghost use Rattle.redo_spec.specs.Work.{row_at};
-ghost use Rattle.row_apply.specs.Found.{owner_of, key_columns};
-ghost use Rattle.row_apply.specs.Soundness.{AreSound, AreSoundRows};
-ghost use Rattle.plain_store.specs.Unique.{IsIndexed, LeadsToRows};
+ghost use Rattle.redo_spec.specs.Tables.{assembled, rows_by, owner_in};
+ghost use Rattle.row_apply.specs.Found.{key_columns};
+ghost use Rattle.row_apply.specs.Soundness.{AreSoundRows};
+ghost use Rattle.plain_store.specs.Unique.{IsIndexed};
 
 use crate::plain_rows::has_values;
 use crate::plain_tables::PlainTables;

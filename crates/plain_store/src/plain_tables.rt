@@ -4,7 +4,7 @@ ghost use Rattle.std.specs.Option.{option_copied};
 ghost use Rattle.std.specs.FinMap.Entries.{find};
 ghost use Rattle.rl_value.specs.Order.{row_cmp};
 ghost use Rattle.redo_spec.specs.Tables.{rows_by};
-ghost use Rattle.plain_store.specs.ById.{with_row, without_row, put_beside, take_from, table_in, rows_after_write};
+ghost use Rattle.plain_store.specs.ById.{with_row, without_row, rows_after_write};
 
 use crate::plain_rows::PlainRows;
 use rl_value::{NoMemory, Row};

@@ -2,7 +2,7 @@
 //!
 //! Each unique value of a row leads to the row's primary key. A write takes away what led to the row that stood there, so
 //! no more values are kept than rows have; still, what the index answers is looked at again in the rows.
-ghost use Rattle.std.specs.Prelude.{◌≡◌, ◌==◌, OnOk, IfOk, None, cond, true, false};
+ghost use Rattle.std.specs.Prelude.{◌≡◌, ◌==◌, OnOk, IfOk, None, true, false};
 ghost use Rattle.std.specs.BTreeMap as tree;
 ghost use Rattle.std.specs.Option.{option_copied};
 ghost use Rattle.rl_value.specs.Order.{key_cmp};
@@ -24,11 +24,9 @@ pub struct UniqueIndex {
 }
 
 impl UniqueIndex {
-    ghost use Rattle.redo_spec.specs.Tables.{Rows};
     ghost use Rattle.redo_spec.specs.Dictionary.{uniques_of};
-    ghost use Rattle.plain_store.specs.Unique.{lead_of, has_unique, slot_has_unique, lead_after_row, LeadsToRows};
+    ghost use Rattle.plain_store.specs.Unique.{lead_of, has_unique, slot_has_unique, lead_after_row};
     ghost use Rattle.plain_store.specs.Checked.{value_leads, leads_from};
-    ghost use Rattle.row_apply.specs.Soundness.{AreSoundRows};
 
     /// No value. It takes no memory yet.
     pub fn new(alloc: Global) -> UniqueIndex

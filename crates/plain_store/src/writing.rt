@@ -2,8 +2,7 @@
 //!
 //! How many rows there will be is counted before anything is written, by a look at each written row's place; so a commit
 //! costs its own writes alone, however many rows there are.
-ghost use Rattle.std.specs.Prelude.{◌≡◌, ◌+◌, ◌<◌, ◌≤◌, ◌&&◌, not, nat_lt, IfOk, OnOk, IsTrue, if◌then◌else◌, cond, is_some};
-ghost use Rattle.redo_spec.specs.Dictionary.{ids_rise};
+ghost use Rattle.std.specs.Prelude.{◌≡◌, ◌+◌, ◌<◌, ◌&&◌, not, nat_lt, IfOk, OnOk, IsTrue, if◌then◌else◌, cond, is_some};
 ghost use Rattle.redo_spec.specs.Tables.{assembled, row_count};
 ghost use Rattle.redo_spec.specs.Fold.{live_row_limit};
 ghost use Rattle.rl_value.specs.declared.key.Key.{Key};

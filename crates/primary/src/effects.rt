@@ -1,6 +1,6 @@
 //! The effects of a commit's changes, over rows that stay as they are.
-ghost use Rattle.std.specs.Prelude.{◌≡◌, ◌<◌, [], Ok, Err, None, OnOk, IfErr, IsTrue};
-ghost use Rattle.redo_spec.specs.Tables.{definitions_of, assembled};
+ghost use Rattle.std.specs.Prelude.{◌≡◌, ◌<◌, [], Ok, Err, OnOk, IfErr, IsTrue};
+ghost use Rattle.redo_spec.specs.Tables.{assembled};
 ghost use Rattle.redo_spec.specs.Fold.{effects};
 ghost use Rattle.row_apply.specs.Overlaid.{overlaid, are_of};
 ghost use Rattle.row_apply.specs.Soundness.{AreSound};

@@ -3,7 +3,6 @@
 //! They are moved out of the records that bring them, and never copied. An UNDO takes the latest one back, and a COMMIT or a
 //! ROLLBACK takes all of its transaction out.
 ghost use Rattle.std.specs.Prelude.{◌≡◌, ◌∷◌, ◌++◌, [], IfOk, OnOk, length, take, ◌-◌};
-ghost use Rattle.rl_value.specs.Order.{xid_cmp};
 ghost use Rattle.primary.specs.Progress.{live_after, commit_of, with_opened, without_closed, with_changes, changes_of};
 
 use redo_vec::{Change, Vector};

@@ -34,7 +34,7 @@ pub struct Running {
 }
 
 impl Running {
-    ghost use Rattle.std.specs.Prelude.{◌≡◌, ◌+◌, ◌<◌, ◌^◌, [], None, Ok, Err, true, false, IfOk, IfErr, IfSome, OnOk, IsTrue};
+    ghost use Rattle.std.specs.Prelude.{◌≡◌, ◌+◌, ◌<◌, ◌^◌, None, Ok, Err, true, false, IfOk, IfErr, IfSome, OnOk, IsTrue};
     ghost use Rattle.redo_spec.specs.Tables.{assembled};
     ghost use Rattle.redo_spec.specs.Fold.{effects};
     ghost use Rattle.row_apply.specs.Overlaid.{overlaid, are_of};

@@ -1,5 +1,5 @@
 -- A record that was cut goes to the evaluator; what is then ahead ends as it did before.
-use Rattle.std.proofs.Common.{◌≡◌, ℕ, ◌+◌, Bool, false, List, [], ◌∷◌, Option, Some, None, Result, Ok, Err, refl, sym, ap, subst, ◌∙◌}
+use Rattle.std.proofs.Common.{◌≡◌, ℕ, ◌+◌, false, List, [], ◌∷◌, Option, Some, None, Result, Ok, Err, refl, sym, ap, subst, ◌∙◌}
 use Rattle.rl_value.specs.declared.cause.Cause.{Cause}
 use Rattle.rl_value.specs.declared.cause.Cause.TheVariants.{Vector}
 use Rattle.rl_value.specs.declared.verdict.Stop.{Stop}

@@ -1,6 +1,6 @@
 //! The words of faults that are one word each.
 //! Which fault has which word: docs/FORMATS.md, "Printed lines".
-ghost use Rattle.std.specs.Prelude.{◌≡◌, ◌∷◌, []};
+ghost use Rattle.std.specs.Prelude.{◌≡◌};
 ghost use Rattle.redo_spec.specs.Lines as lines;
 
 use rl_value::{CutFault, HeadFault, VecFault};

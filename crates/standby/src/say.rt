@@ -1,7 +1,7 @@
 //! Writes text to a sink, in as many pieces as the sink takes.
 //!
 //! What is written is always a prefix of the text. It ends early only where the sink's count of faults rose.
-ghost use Rattle.std.specs.Prelude.{◌≡◌, ◌≤◌, OnOk, OnErr};
+ghost use Rattle.std.specs.Prelude.{◌≤◌, OnOk, OnErr};
 ghost use Rattle.std.specs.Io.KnownBytes.{Appends};
 ghost use Rattle.rl_ports.specs.Faults.{NoneCounted, Rose};
 ghost use Rattle.standby.specs.Writing.{AppendsPrefix};

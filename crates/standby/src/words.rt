@@ -3,7 +3,7 @@
 //! `fold SEQ` folds a log; SEQ is 1 to 4294967295 in decimal, without a sign or a leading zero.
 //! Words that begin with `run`, `mine` or `load` are commands that are not built yet, whatever follows.
 //! All other words are none of a command, and so are no words at all.
-ghost use Rattle.std.specs.Prelude.{◌≡◌, codes};
+ghost use Rattle.std.specs.Prelude.{◌≡◌};
 ghost use Rattle.rl_value.specs.Order.{same_bytes};
 ghost use Rattle.standby.specs.Command.{is_digit, begins_well, fold_of, fold_with, is_later, command_of};
 

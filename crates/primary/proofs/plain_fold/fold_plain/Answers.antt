@@ -1,4 +1,4 @@
-use Rattle.std.proofs.Common.{◌≡◌, rules, sym, ap, subst, Err}
+use Rattle.std.proofs.Common.{rules, sym, ap, subst, Err}
 use Rattle.redo_vec.specs.declared.redo_rec.RedoRec.{RedoRec}
 use Rattle.primary.specs.Progress.{Progress, RowsAreSound}
 use Rattle.primary.proofs.SoundLaws.{SoundAhead, ahead_item, start_ahead, starts_empty}
