@@ -250,14 +250,23 @@ fn a_change_finds_its_rows(rt: HostRuntime) -> Result<(), Fail> {
     Ok(())
 }
 
+fn is_same(write: &Write, other: &Write) -> bool {
+    write.table == other.table && write.key == other.key && write.row == other.row
+}
+
+// The write is that of a copy of the other.
+fn is_copied(write: &Write, other: &Write) -> Result<bool, Fail> {
+    let copy = other.copy()?;
+    Ok(is_same(write, &copy))
+}
+
 // The writes are those of copies of the others.
 fn are_same(writes: &[Write], others: &[Write]) -> Result<bool, Fail> {
     if writes.len() != others.len() {
         return Ok(false);
     }
     for (write, other) in writes.iter().zip(others) {
-        let other = other.copy()?;
-        if write.table != other.table || write.key != other.key || write.row != other.row {
+        if !is_copied(write, other)? {
             return Ok(false);
         }
     }
