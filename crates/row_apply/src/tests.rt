@@ -1,6 +1,7 @@
 //! What no clause says: that changes are made with ample memory, here of a table without rows beneath.
 
 ghost use Rattle.std.specs.Prelude.{◌≡◌, ◌<◌, ◌∷◌, [], IfOk, IsTrue, OnOk};
+ghost use Rattle.redo_vec.specs.declared.columns.Kind.TheVariants.{Number};
 ghost use Rattle.redo_vec.specs.Forms.{is_line30};
 ghost use Rattle.redo_spec.specs.Tables.{empty_tables};
 ghost use Rattle.row_apply.specs.Overlaid.{overlaid};
@@ -11,7 +12,7 @@ use crate::fault::EffectFault;
 use crate::laws::{no_writes_change_nothing, tables_without_rows_are_sound};
 use crate::overlay::Overlay;
 use crate::rows::Rows;
-use crate::writes::Write;
+use crate::writes::{Write, Writes};
 use redo_dict::Dict;
 use redo_vec::{Change, Column, Columns, KeyColumns, KeyLists, Kind, Line30, Op, TableRow};
 use rl_value::{Cells, Key, Miss, Row, Value, Xid};
@@ -121,26 +122,37 @@ fn word(alloc: Global, bytes: &[u8]) -> Result<Line30, Fail>
     Ok(Line30::of(Vec::from_slice(alloc, bytes)?))
 }
 
-// T.A: ID is the primary key, and CODE, which may be Null, a unique one.
-fn table(alloc: Global) -> Result<TableRow, Fail> {
-    let id = Column {
-        name: word(alloc, b"ID")?,
+fn number(alloc: Global, name: &[u8], nullable: bool) -> Result<Column, Fail>
+    requires { IsTrue (is_line30 name.now) }
+    ensures { IfOk result (λ column. column.kind ≡ Number) }
+{
+    Ok(Column {
+        name: word(alloc, name)?,
         kind: Kind::Number,
-        nullable: false,
-    };
-    let code = Column {
-        name: word(alloc, b"CODE")?,
-        kind: Kind::Number,
-        nullable: true,
-    };
+        nullable,
+    })
+}
+
+fn columns(alloc: Global) -> Result<Columns, Fail> {
+    let id = number(alloc, b"ID", false)?;
+    let code = number(alloc, b"CODE", true)?;
+    Ok(Columns::of(vec![in alloc; id, code]?))
+}
+
+fn keys(alloc: Global) -> Result<KeyLists, Fail> {
     let primary = KeyColumns::of(vec![in alloc; 0]?);
     let unique = KeyColumns::of(vec![in alloc; 1]?);
+    Ok(KeyLists::of(vec![in alloc; primary, unique]?))
+}
+
+// T.A: ID is the primary key, and CODE, which may be Null, a unique one.
+fn table(alloc: Global) -> Result<TableRow, Fail> {
     Ok(TableRow {
         id: 1,
         schema: word(alloc, b"T")?,
         name: word(alloc, b"A")?,
-        columns: Columns::of(vec![in alloc; id, code]?),
-        keys: KeyLists::of(vec![in alloc; primary, unique]?),
+        columns: columns(alloc)?,
+        keys: keys(alloc)?,
     })
 }
 
@@ -250,46 +262,55 @@ fn a_change_finds_its_rows(rt: HostRuntime) -> Result<(), Fail> {
     Ok(())
 }
 
-fn is_same(write: &Write, other: &Write) -> bool {
-    write.table == other.table && write.key == other.key && write.row == other.row
-}
-
-// The write is that of a copy of the other.
-fn is_copied(write: &Write, other: &Write) -> Result<bool, Fail> {
-    let copy = other.copy()?;
-    Ok(is_same(write, &copy))
-}
-
 // The writes are those of copies of the others.
 fn are_same(writes: &[Write], others: &[Write]) -> Result<bool, Fail> {
     if writes.len() != others.len() {
         return Ok(false);
     }
     for (write, other) in writes.iter().zip(others) {
-        if !is_copied(write, other)? {
+        let other = other.copy()?;
+        if write.table != other.table || write.key != other.key || write.row != other.row {
             return Ok(false);
         }
     }
     Ok(true)
 }
 
-// How many rows these steps have written. None where a step was not done, or where the writes, a copy of them and those that
-// a snapshot gives up are not the same.
-fn written(alloc: Global, steps: &[Step]) -> Result<Option<usize>, Fail> {
-    let Some(mut world) = World::new(alloc)? else {
-        return Ok(None);
-    };
-    if outcome(&mut world, alloc, steps)? != Told::Done {
-        return Ok(None);
-    }
-    let writes = world.over.writes()?;
+// Whether a copy of the writes is the same.
+fn are_copied(writes: &Writes) -> Result<bool, Fail> {
     let copy = writes.copy()?;
-    let moved = world.over.snapshot()?.into_writes()?;
-    let same = are_same(writes.items(), copy.items())? && are_same(writes.items(), moved.items())?;
+    are_same(writes.items(), copy.items())
+}
+
+// Whether the writes that a snapshot gives up are the same.
+fn are_moved(over: &Overlay, writes: &Writes) -> Result<bool, Fail> {
+    let moved = over.snapshot()?.into_writes()?;
+    are_same(writes.items(), moved.items())
+}
+
+// How many rows are written. None where the writes, a copy of them and those that a snapshot gives up are not the same.
+fn write_count(over: &Overlay) -> Result<Option<usize>, Fail> {
+    let writes = over.writes()?;
+    let same = are_copied(&writes)? && are_moved(over, &writes)?;
     if !same {
         return Ok(None);
     }
     Ok(Some(writes.items().len()))
+}
+
+fn count_after(world: &mut World, alloc: Global, steps: &[Step]) -> Result<Option<usize>, Fail> {
+    if outcome(world, alloc, steps)? != Told::Done {
+        return Ok(None);
+    }
+    write_count(&world.over)
+}
+
+// How many rows these steps have written. None where a step was not done, or as `write_count` says.
+fn written(alloc: Global, steps: &[Step]) -> Result<Option<usize>, Fail> {
+    match World::new(alloc)? {
+        None => Ok(None),
+        Some(mut world) => count_after(&mut world, alloc, steps),
+    }
 }
 
 #[test]
