@@ -3,7 +3,7 @@
 //! What stands in the way is told in this order: a row that is not there, or not as it was logged; then a row with the
 //! new primary key; then a row with a unique value. The row that an update takes away is never in its own way.
 
-ghost use Rattle.std.specs.Prelude.{◌≡◌, ◌≢◌, ◌<◌, false, Ok, Err, None, Some, Result, OnOk, OnErr, IfOk, IsTrue, length, is_some, true};
+ghost use Rattle.std.specs.Prelude.{◌≡◌, ◌≢◌, ◌<◌, false, Ok, Err, None, Some, Result, OnOk, OnErr, IfOk, IsTrue};
 ghost use Rattle.redo_spec.specs.ChangeForm.{change_fault, change_fault_in};
 ghost use Rattle.redo_spec.specs.ConflictKeys.{conflict_keys};
 ghost use Rattle.redo_spec.specs.Dictionary.{has_bad_keys};

@@ -1,6 +1,6 @@
 //! The index of unique values: which row has one.
 
-ghost use Rattle.std.specs.Prelude.{◌≡◌, ◌<◌, ◌+◌, length, IfOk, OnOk, IsTrue, if◌then◌else◌, ◌==◌, true};
+ghost use Rattle.std.specs.Prelude.{◌≡◌, ◌<◌, ◌+◌, IfOk, OnOk, IsTrue, if◌then◌else◌, ◌==◌, true};
 ghost use Rattle.redo_spec.specs.Dictionary.{uniques_of};
 ghost use Rattle.row_apply.specs.Kept.{index_at, index_by, index_slot, index_all, leads_at, leads_by, leads_slot, leads_all, OwnersOnly};
 

@@ -1,8 +1,7 @@
 //! The values of a row in columns, as those of a key.
 
-ghost use Rattle.std.specs.Prelude.{◌≡◌, ◌<◌, ◌≤◌, length, IfOk, IsTrue, map, unwrap_or, slice_get};
+ghost use Rattle.std.specs.Prelude.{◌≡◌, ◌<◌, length, IfOk};
 ghost use Rattle.std.specs.List.{list_any};
-ghost use Rattle.std.specs.Option.{option_copied};
 ghost use Rattle.redo_spec.specs.ConflictKeys.{is_null};
 ghost use Rattle.redo_spec.specs.Dictionary.{uniques_of};
 ghost use Rattle.redo_spec.specs.Tables.{value_in, values_at, primary_key};

@@ -1,17 +1,16 @@
 //! Rows and keys as the cells of a change give them.
 
-ghost use Rattle.std.specs.Prelude.{◌≡◌, ◌≢◌, ◌<◌, ◌≤◌, ◌+◌, length, IfOk, OnOk, IsTrue, map, unwrap_or, Some, None, Option, false, true};
+ghost use Rattle.std.specs.Prelude.{◌≡◌, ◌≢◌, ◌<◌, ◌≤◌, ◌+◌, length, IfOk, OnOk, IsTrue, unwrap_or, Some, None, Option, false};
 ghost use Rattle.std.specs.List.{filter_map};
 ghost use Rattle.std.specs.Option.{option_copied};
 ghost use Rattle.redo_spec.specs.ConflictKeys.{cell_of};
-ghost use Rattle.redo_spec.specs.Dictionary.{column_numbers, numbers_from, primary_of, has_bad_keys};
+ghost use Rattle.redo_spec.specs.Dictionary.{primary_of, has_bad_keys};
 ghost use Rattle.redo_spec.specs.ChangeForm.{change_fault_in};
 ghost use Rattle.redo_spec.specs.Effect.{cell_values, with_cells, logged_key, difference};
 ghost use Rattle.redo_spec.specs.Tables.{value_in};
 ghost use Rattle.rl_value.specs.declared.miss.Miss.TheVariants.{Differs};
 ghost use Rattle.redo_vec.specs.Forms.{is_key_columns};
 ghost use Rattle.redo_vec.specs.declared.change.Op.TheVariants.{Insert};
-ghost use Rattle.rl_value.specs.Text.{IsRow};
 ghost use Rattle.row_apply.specs.Outcomes.{OfMiss, OnMiss};
 
 use crate::fault::EffectFault;

@@ -6,7 +6,7 @@ ghost use Rattle.std.specs.Option.{option_copied};
 ghost use Rattle.redo_spec.specs.Dictionary.{table_of};
 ghost use Rattle.redo_spec.specs.Tables.{definitions_of};
 ghost use Rattle.rl_value.specs.Order.{row_cmp};
-ghost use Rattle.row_apply.specs.Kept.{row_key, slot_at, AreSlots, rows_seen};
+ghost use Rattle.row_apply.specs.Kept.{row_key, AreSlots, rows_seen};
 ghost use Rattle.row_apply.specs.KeptIn.{slots_of};
 
 use crate::rows::Rows;

@@ -1,6 +1,6 @@
 //! What no clause says: that changes are made with ample memory, here of a table without rows beneath.
 
-ghost use Rattle.std.specs.Prelude.{◌≡◌, ◌<◌, ◌∷◌, [], IfOk, IsTrue, OnOk};
+ghost use Rattle.std.specs.Prelude.{◌≡◌, ◌<◌, ◌∷◌, [], IfOk, IsTrue};
 ghost use Rattle.redo_vec.specs.declared.columns.Kind.TheVariants.{Number};
 ghost use Rattle.redo_vec.specs.Forms.{is_line30};
 ghost use Rattle.redo_spec.specs.Tables.{empty_tables};

@@ -5,17 +5,14 @@
 //! write, the table is no longer taken as indexed, and its next change indexes it anew. Nor is a table taken as indexed two
 //! of whose written rows have one unique value: no change of sound tables leaves that.
 
-ghost use Rattle.std.specs.Prelude.{◌≡◌, ℕ, ◌<◌, ◌+◌, length, List, [], IfOk, OnOk, OnErr, IsSome, IsTrue, Option, Some, None, false, true, cond, drop, ◌==◌};
+ghost use Rattle.std.specs.Prelude.{◌≡◌, ℕ, ◌<◌, List, [], IfOk, OnOk, OnErr, IsSome, IsTrue, Option, Some, None, false, true, cond, ◌==◌};
 ghost use Rattle.std.specs.List.Sorted.{IsStrictlySortedBy};
 ghost use Rattle.std.specs.Map.{keys_of};
 ghost use Rattle.std.specs.Ordering.{is_eq};
 ghost use Rattle.rl_value.specs.Order.{key_cmp};
 ghost use Rattle.rl_value.specs.declared.key.Key.{Key};
-ghost use Rattle.redo_spec.specs.ConflictKeys.{is_null};
-ghost use Rattle.redo_spec.specs.Dictionary.{uniques_of};
-ghost use Rattle.redo_spec.specs.Tables.{values_at};
 ghost use Rattle.row_apply.specs.Adding.{HasIndex};
-ghost use Rattle.row_apply.specs.Kept.{row_key, slot_at, owner_at, indexed_at, AreSlots, AreIndexed, Sets, Puts, IndexedOnly, OneLive, IsFreeAmong, IsPrimaryOf};
+ghost use Rattle.row_apply.specs.Kept.{row_key, slot_at, indexed_at, AreSlots, Sets, Puts, IndexedOnly, OneLive, IsFreeAmong, IsPrimaryOf};
 ghost use Rattle.row_apply.specs.Written.{writes_in};
 ghost use Rattle.row_apply.specs.KeptIn.{slots_of, owners_of, indexed_of, IsKept};
 
