@@ -1,0 +1,62 @@
+//! What every level of a tree is: a part that has entries in rising order of their keys.
+
+ghost use Rattle.std.specs.Prelude.{◌≡◌, ◌≢◌, ◌++◌, ◌∷◌, [], Some, IfOk, IfSome};
+ghost use Rattle.std.specs.Option.{option_copied};
+ghost use Rattle.std.specs.FinMap.Entries.{find, put};
+ghost use Rattle.std.specs.Arc.{arc_value};
+ghost use Rattle.rl_value.specs.Order.{row_cmp};
+ghost use Rattle.row_tree.specs.Entries.{Entries, first_key, without, and_more};
+
+use crate::item::Item;
+use rl_value::{NoMemory, Row};
+use std::alloc::Global;
+
+/// A part of a tree. It has at least one entry.
+pub(crate) trait Part: Sized {
+    /// Its entries.
+    ghost entries: { Self → Entries };
+
+    /// What holds of it and of the parts beneath.
+    ghost sound: { Self → Type 0 };
+
+    /// A part of one entry.
+    fn one(alloc: Global, item: Item) -> Result<Self, NoMemory>
+        ensures one { IfOk result (λ part. entries part ≡ ((arc_value item.entry).key, (arc_value item.entry).row) ∷ []) }
+        ensures sound { IfOk result sound };
+
+    /// The same blocks under another owner.
+    fn share(&self) -> Result<Self, NoMemory>
+        requires sound { sound self.now }
+        ensures same { IfOk result (λ part. entries part ≡ entries self.now) }
+        ensures sound { IfOk result sound };
+
+    /// The least key.
+    fn least(&self) -> &Row
+        requires sound { sound self.now }
+        ensures least { first_key (entries self.now) ≡ Some result.now };
+
+    /// The first entry, under another owner.
+    fn first(&self) -> Result<Item, NoMemory>
+        requires sound { sound self.now }
+        ensures first { IfOk result (λ item. first_key (entries self.now) ≡ Some (arc_value item.entry).key) };
+
+    /// The row of this key.
+    fn get(&self, key: &Row) -> Option<&Row>
+        requires sound { sound self.now }
+        ensures found { option_copied result ≡ find row_cmp key.now (entries self.now) };
+
+    /// With an entry in place of the one with its key. A part that would grow too large is cut in two.
+    fn put(self, item: Item) -> Result<(Self, Option<Self>), NoMemory>
+        requires sound { sound self }
+        ensures put { IfOk result (λ r. entries r.0 ++ and_more entries r.1 ≡
+            put row_cmp (arc_value item.entry).key (arc_value item.entry).row (entries self)) }
+        ensures sound { IfOk result (λ r. sound r.0 × IfSome r.1 sound) };
+
+    /// Without the entry of this key; None where no entry is left.
+    fn remove(self, key: &Row) -> Result<Option<Self>, NoMemory>
+        requires sound { sound self }
+        ensures left { IfOk result (λ r. and_more entries r ≡ without key.now (entries self)) }
+        ensures sound { IfOk result (λ r. IfSome r sound) };
+
+    ghost some: { (part : Self) → sound part → entries part ≢ [] };
+}
