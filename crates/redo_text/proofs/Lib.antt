@@ -1,0 +1,17 @@
+pub mod Forms
+pub mod Loop
+pub mod Splitting
+pub mod Numbers
+pub mod FieldLaws
+pub mod KnownLaws
+pub mod ListLaws
+pub mod ChangeLaws
+pub mod Uniques
+pub mod TableLaws
+pub mod VectorLaws
+pub mod SpelledDrafts
+pub mod TextLaws
+pub mod SaidSteps
+pub mod SaidFields
+pub mod SaidVectors
+pub mod SaidText

@@ -1,0 +1,143 @@
+//! The line that is shown where a log cannot be read on (specs/FaultLine.antt).
+ghost use Rattle.std.specs.Prelude.{◌≡◌, ◌≤◌, ◌∷◌, ◌++◌, [], length, IfOk, OnOk, codes};
+ghost use Rattle.std.specs.Fmt.{decimal};
+ghost use Rattle.redo_spec.specs.Lines as lines;
+ghost use Rattle.redo_text.specs.FaultLine.{fault_words, bytes_words, fault_line};
+
+use crate::known::decimal_of;
+use crate::printing::put_keyword;
+use crate::printing_changes::literal_of;
+use crate::printing_tables::raw_of;
+use crate::words::{joined, push_bytes, push_part};
+use rl_value::{Bytes, CutFault, HeadFault, NoMemory, VecFault};
+use std::alloc::Global;
+
+/// Why a log cannot be read on.
+#[derive(Clone, Copy, Debug, PartialEq, Eq)]
+pub enum LogFault {
+    /// The log's header has this fault.
+    Head(HeadFault),
+    /// The record cannot be cut off the log.
+    Cut(CutFault),
+    /// The record does not decode.
+    Vector(VecFault),
+}
+
+fn head_word(fault: HeadFault) -> &'static [u8]
+    ensures { result.now ≡ lines.head_word fault }
+{
+    match fault {
+        HeadFault::Short => b"SHORT",
+        HeadFault::Magic => b"MAGIC",
+        HeadFault::Version => b"VERSION",
+        HeadFault::Thread => b"THREAD",
+        HeadFault::Sequence => b"SEQUENCE",
+        HeadFault::Range => b"RANGE",
+        HeadFault::Records => b"RECORDS",
+        HeadFault::Reserved => b"RESERVED",
+        HeadFault::Dbid => b"DBID",
+    }
+}
+
+fn cut_word(fault: CutFault) -> &'static [u8]
+    ensures { result.now ≡ lines.cut_word fault }
+{
+    match fault {
+        CutFault::Length => b"LENGTH",
+        CutFault::Count => b"COUNT",
+        CutFault::Truncated => b"TRUNCATED",
+        CutFault::Trailing => b"TRAILING",
+    }
+}
+
+fn vector_word(fault: VecFault) -> &'static [u8]
+    ensures { result.now ≡ lines.vec_word fault }
+{
+    match fault {
+        VecFault::Kind => b"KIND",
+        VecFault::Tag => b"TAG",
+        VecFault::Cells => b"CELLS",
+        VecFault::Utf8 => b"UTF8",
+        VecFault::Empty => b"EMPTY",
+        VecFault::Size => b"SIZE",
+        VecFault::End => b"END",
+    }
+}
+
+fn put_fault(alloc: Global, words: &mut Vec<Bytes>, fault: LogFault) -> Result<(), NoMemory>
+    ensures { OnOk result (words.new.items ≡ words.old.items ++ fault_words fault) }
+{
+    match fault {
+        LogFault::Head(fault) => {
+            put_keyword(alloc, words, b"HEADER")?;
+            put_keyword(alloc, words, head_word(fault))
+        }
+        LogFault::Cut(fault) => put_keyword(alloc, words, cut_word(fault)),
+        LogFault::Vector(fault) => put_keyword(alloc, words, vector_word(fault)),
+    }
+}
+
+fn put_number(alloc: Global, words: &mut Vec<Bytes>, number: u64) -> Result<(), NoMemory>
+    ensures { OnOk result (words.new.items ≡ words.old.items ++ decimal number ∷ []) }
+{
+    let number = decimal_of(alloc, number)?;
+    push_part(words, number)
+}
+
+fn put_bytes(alloc: Global, words: &mut Vec<Bytes>, bytes: &[u8]) -> Result<(), NoMemory>
+    requires { length bytes.now ≤ 30 }
+    ensures { OnOk result (words.new.items ≡ words.old.items ++ bytes_words bytes.now) }
+{
+    match bytes {
+        [] => Ok(()),
+        [_, ..] => {
+            let raw = raw_of(alloc, bytes)?;
+            let word = literal_of(alloc, &raw)?;
+            push_part(words, word)
+        }
+    }
+}
+
+fn put_place(alloc: Global, words: &mut Vec<Bytes>, at: u64, bytes: &[u8]) -> Result<(), NoMemory>
+    requires { length bytes.now ≤ 30 }
+    ensures { OnOk result (words.new.items ≡ words.old.items ++ decimal at ∷ bytes_words bytes.now) }
+{
+    put_number(alloc, words, at)?;
+    put_bytes(alloc, words, bytes)
+}
+
+fn fault_words(
+    alloc: Global,
+    rec: u64,
+    fault: LogFault,
+    at: u64,
+    bytes: &[u8],
+) -> Result<Vec<Bytes>, NoMemory>
+    requires { length bytes.now ≤ 30 }
+    ensures { IfOk result (λ words. words.items
+        ≡ codes "FAULT" ∷ decimal rec ∷ (fault_words fault ++ decimal at ∷ bytes_words bytes.now)) }
+{
+    let mut words = Vec::new(alloc);
+    put_keyword(alloc, &mut words, b"FAULT")?;
+    put_number(alloc, &mut words, rec)?;
+    put_fault(alloc, &mut words, fault)?;
+    put_place(alloc, &mut words, at, bytes)?;
+    Ok(words)
+}
+
+/// The line of a fault of this record: why, at which offset in the log, and up to 30 bytes that stand there.
+pub fn show_fault(
+    alloc: Global,
+    rec: u64,
+    fault: LogFault,
+    at: u64,
+    bytes: &[u8],
+) -> Result<Vec<u8>, NoMemory>
+    requires few { length bytes.now ≤ 30 }
+    ensures shown { IfOk result (λ line. line.items ≡ fault_line rec fault at bytes.now) }
+{
+    let words = fault_words(alloc, rec, fault, at, bytes)?;
+    let mut line = joined(alloc, b' ', words.as_slice())?;
+    push_bytes(&mut line, b"\n")?;
+    Ok(line)
+}
