@@ -1,0 +1,6 @@
+pub mod Counting
+pub mod Finding
+pub mod Leading
+pub mod Overlaying
+pub mod Owning
+pub mod Writing

@@ -1,0 +1,4 @@
+pub mod Leads
+pub mod Owners
+pub mod Stored
+pub mod Shared

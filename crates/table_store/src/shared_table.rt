@@ -1,0 +1,160 @@
+//! A list of tables, each of which the lists before and behind it may have too.
+ghost use Rattle.std.specs.Prelude.{◌≡◌, ◌==◌, IfOk, IfSome, IsTrue, length, [], map, Some};
+ghost use Rattle.std.specs.Arc.{arc_value};
+ghost use Rattle.std.specs.List.{find, AllByRecursion};
+ghost use Rattle.std.specs.Option.{option_copied};
+ghost use Rattle.redo_vec.specs.declared.table.TableRow.{TableRow};
+ghost use Rattle.redo_spec.specs.Tables.{empty_tables, row_count};
+ghost use Rattle.row_apply.specs.Overlaid.{overlaid, table_after, writes_rise};
+ghost use Rattle.row_apply.specs.Soundness.{AreSound, AreSoundRows};
+ghost use Rattle.table_store.specs.Shared.{tables_in, found_in, is_written};
+
+use crate::stored_table::StoredTable;
+use redo_vec::TableRow;
+use rl_value::NoMemory;
+use row_apply::Write;
+use std::alloc::Global;
+use std::sync::Arc;
+
+/// A table that several lists may share.
+#[derive(Drop)]
+pub(crate) struct SharedTable {
+    table: Arc<StoredTable>,
+}
+
+fn share(alloc: Global, table: StoredTable) -> Result<SharedTable, NoMemory>
+    ensures same { IfOk result (λ shared. arc_value shared.table ≡ table) }
+{
+    match Arc::new(alloc, table) {
+        Ok(table) => Ok(SharedTable { table }),
+        Err(_) => Err(NoMemory),
+    }
+}
+
+// The table itself, or an equal one where another list has it too.
+fn own(shared: SharedTable) -> Result<StoredTable, NoMemory>
+    ensures same { IfOk result (λ table. table ≡ arc_value shared.table) }
+{
+    match Arc::try_unwrap(shared.table) {
+        Ok(table) => Ok(table),
+        Err(shared) => shared.copy(),
+    }
+}
+
+/// These tables, without rows.
+pub(crate) fn without_rows(
+    alloc: Global,
+    definitions: &[TableRow],
+) -> Result<Vec<SharedTable>, NoMemory>
+    ensures empty { IfOk result (λ tables. tables_in tables.items ≡ empty_tables definitions.now) }
+{
+    let Ok(mut tables) = Vec::with_capacity(alloc, definitions.len()) else {
+        return Err(NoMemory);
+    };
+    for definition in definitions {
+        let table = StoredTable::new(alloc, definition.copy()?)?;
+        let table = share(alloc, table)?;
+        if tables.push(table).is_err() {
+            return Err(NoMemory);
+        }
+    }
+    Ok(tables)
+}
+
+/// The same tables in another list.
+pub(crate) fn shared(alloc: Global, tables: &[SharedTable]) -> Result<Vec<SharedTable>, NoMemory>
+    ensures same { IfOk result (λ copies. tables_in copies.items ≡ tables_in tables.now) }
+{
+    let Ok(mut copies) = Vec::with_capacity(alloc, tables.len()) else {
+        return Err(NoMemory);
+    };
+    for table in tables {
+        let Ok(table) = Arc::try_clone(&table.table) else {
+            return Err(NoMemory);
+        };
+        if copies.push(SharedTable { table }).is_err() {
+            return Err(NoMemory);
+        }
+    }
+    Ok(copies)
+}
+
+/// The table of this id.
+pub(crate) fn table_at(tables: &[SharedTable], id: u32) -> Option<&StoredTable>
+    ensures found { option_copied result ≡ found_in id (tables_in tables.now) }
+{
+    let mut rest = tables;
+    while let [shared, others @ ..] = rest {
+        if shared.table.definition().id == id {
+            return Some(&shared.table);
+        }
+        rest = others;
+    }
+    None
+}
+
+/// How many rows the tables have together.
+#[tactic(auto, using(crate::proofs::Counting::rows_counted))]
+pub(crate) fn count_rows(tables: &[SharedTable]) -> Result<u64, NoMemory>
+    ensures exact { IfOk result (λ count. count ≡ row_count (tables_in tables.now)) }
+{
+    let mut count: u64 = 0;
+    let mut rest = tables;
+    while let [shared, others @ ..] = rest {
+        match count.checked_add(shared.table.count()) {
+            // No store has 2^64 rows; the answer without a cause stands for it.
+            None => return Err(NoMemory),
+            Some(sum) => count = sum,
+        }
+        rest = others;
+    }
+    Ok(count)
+}
+
+fn is_written(writes: &[Write], id: u32) -> bool
+    ensures exact { result ≡ is_written id writes.now }
+{
+    writes.iter().any(|write| write.table == id)
+}
+
+// The table after those of the writes that are of it; one that no write is of stays shared.
+fn write_table(
+    alloc: Global,
+    shared: SharedTable,
+    writes: &[Write],
+) -> Result<SharedTable, NoMemory>
+    requires writes_rise { IsTrue (writes_rise writes.now) }
+    requires sound { AreSoundRows (arc_value shared.table).row (arc_value shared.table).rows }
+    requires sound_then { AreSoundRows (arc_value shared.table).row (table_after writes.now (arc_value shared.table)).rows }
+    ensures written { IfOk result (λ after. arc_value after.table ≡ table_after writes.now (arc_value shared.table)) }
+{
+    if !is_written(writes, shared.table.definition().id) {
+        return Ok(shared);
+    }
+    let table = own(shared)?;
+    let table = table.write_all(writes)?;
+    share(alloc, table)
+}
+
+/// The tables with the written rows in place of theirs.
+pub(crate) fn write_tables(
+    alloc: Global,
+    tables: Vec<SharedTable>,
+    writes: &[Write],
+) -> Result<Vec<SharedTable>, NoMemory>
+    requires writes_rise { IsTrue (writes_rise writes.now) }
+    requires sound { AreSound (tables_in tables.items) }
+    requires sound_then { AreSound (overlaid (tables_in tables.items) writes.now) }
+    ensures written { IfOk result (λ after. tables_in after.items ≡ overlaid (tables_in tables.items) writes.now) }
+{
+    let Ok(mut done) = Vec::with_capacity(alloc, tables.len()) else {
+        return Err(NoMemory);
+    };
+    for shared in tables {
+        let after = write_table(alloc, shared, writes)?;
+        if done.push(after).is_err() {
+            return Err(NoMemory);
+        }
+    }
+    Ok(done)
+}

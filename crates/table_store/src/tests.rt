@@ -1,0 +1,213 @@
+//! What no clause says: that ample memory is enough for commits, one after the other, over tables that are stored.
+ghost use Rattle.std.specs.Prelude.{IfOk, IsTrue};
+ghost use Rattle.redo_vec.specs.Forms.{is_line30};
+ghost use Rattle.redo_spec.specs.Tables.{definitions_of};
+ghost use Rattle.row_apply.specs.Overlaid.{overlaid, are_of};
+ghost use Rattle.row_apply.specs.Soundness.{AreSound};
+
+use crate::tables::Tables;
+use redo_dict::Dict;
+use redo_vec::{Change, Column, Columns, KeyColumns, KeyLists, Kind, Line30, Op, TableRow};
+use rl_value::{Cells, Key, Row, Value, Xid};
+use row_apply::laws::{no_writes_change_nothing, tables_without_rows_are_sound};
+use row_apply::{Overlay, Rows, effect};
+use std::alloc::Global;
+use std::test::Fail;
+
+/// A change of a case, by the ID and the CODE of its row before and after.
+#[derive(Clone, Copy)]
+enum Step {
+    Insert(i64, i64),
+    Update((i64, i64), (i64, i64)),
+    Delete(i64, i64),
+}
+
+fn word(alloc: Global, bytes: &[u8]) -> Result<Line30, Fail>
+    requires { IsTrue (is_line30 bytes.now) }
+{
+    Ok(Line30::of(Vec::from_slice(alloc, bytes)?))
+}
+
+// T.A: ID is the primary key, and CODE a unique one.
+fn table(alloc: Global) -> Result<TableRow, Fail> {
+    let id = Column {
+        name: word(alloc, b"ID")?,
+        kind: Kind::Number,
+        nullable: false,
+    };
+    let code = Column {
+        name: word(alloc, b"CODE")?,
+        kind: Kind::Number,
+        nullable: true,
+    };
+    let primary = KeyColumns::of(vec![in alloc; 0]?);
+    let unique = KeyColumns::of(vec![in alloc; 1]?);
+    Ok(TableRow {
+        id: 1,
+        schema: word(alloc, b"T")?,
+        name: word(alloc, b"A")?,
+        columns: Columns::of(vec![in alloc; id, code]?),
+        keys: KeyLists::of(vec![in alloc; primary, unique]?),
+    })
+}
+
+fn cells(alloc: Global, row: (i64, i64)) -> Result<Cells, Fail> {
+    Ok(Cells::of(vec![in alloc; (0, Value::Number(row.0)), (1, Value::Number(row.1))]?))
+}
+
+fn none(alloc: Global) -> Cells {
+    Cells::of(Vec::new(alloc))
+}
+
+fn change(op: Op, old: Cells, new: Cells) -> Change {
+    Change {
+        xid: Xid {
+            usn: 1,
+            slot: 2,
+            sqn: 3,
+        },
+        op,
+        table: 1,
+        old,
+        new,
+    }
+}
+
+fn change_of(alloc: Global, step: Step) -> Result<Change, Fail> {
+    match step {
+        Step::Insert(id, code) => Ok(change(Op::Insert, none(alloc), cells(alloc, (id, code))?)),
+        Step::Update(old, new) => Ok(change(Op::Update, cells(alloc, old)?, cells(alloc, new)?)),
+        Step::Delete(id, code) => Ok(change(Op::Delete, cells(alloc, (id, code))?, none(alloc))),
+    }
+}
+
+// T.A without rows.
+fn empty(alloc: Global) -> Result<Tables, Fail>
+    ensures sound { IfOk result (λ tables. AreSound tables.tables) }
+{
+    let mut dict = Dict::new(alloc);
+    let added = dict.add(table(alloc)?).is_ok();
+    if !added {
+        return Err(Fail::from("no table"));
+    }
+    tables_without_rows_are_sound();
+    match Tables::new(alloc, dict) {
+        Ok(tables) => Ok(tables),
+        Err(_) => Err(Fail::from("no memory")),
+    }
+}
+
+// The writes of one commit over these tables, if each of its steps is accepted and done.
+fn overlay(alloc: Global, tables: &Tables, steps: &[Step]) -> Result<Overlay, Fail>
+    requires sound { AreSound tables.now.tables }
+    ensures sound { IfOk result (λ over. AreSound (overlaid tables.now.tables over)) }
+    ensures of_tables { IfOk result (λ over. IsTrue (are_of (definitions_of tables.now.tables) over)) }
+{
+    let dict = tables.dict();
+    let mut over = Overlay::new(alloc);
+    no_writes_change_nothing();
+    for step in steps {
+        let change = change_of(alloc, *step)?;
+        if dict.check_change(&change).is_err() {
+            return Err(Fail::from("a step was refused"));
+        }
+        if effect(tables, dict, &mut over, &change).is_err() {
+            return Err(Fail::from("a step was not done"));
+        }
+    }
+    Ok(over)
+}
+
+// The tables after a commit, beside those before it.
+fn after(alloc: Global, tables: &Tables, steps: &[Step]) -> Result<Tables, Fail>
+    requires sound { AreSound tables.now.tables }
+    ensures sound { IfOk result (λ after. AreSound after.tables) }
+{
+    let writes = overlay(alloc, tables, steps)?.into_writes()?;
+    match tables.with(&writes) {
+        Ok(tables) => Ok(tables),
+        Err(_) => Err(Fail::from("a commit was not made")),
+    }
+}
+
+// The same, where nobody needs the tables before it.
+fn moved(alloc: Global, tables: Tables, steps: &[Step]) -> Result<Tables, Fail>
+    requires sound { AreSound tables.tables }
+    ensures sound { IfOk result (λ after. AreSound after.tables) }
+{
+    let writes = overlay(alloc, &tables, steps)?.into_writes()?;
+    match tables.written(&writes) {
+        Ok(tables) => Ok(tables),
+        Err(_) => Err(Fail::from("a commit was not made")),
+    }
+}
+
+fn number(row: &Row, column: usize) -> i64 {
+    match row.values().get(column) {
+        Some(Value::Number(number)) => *number,
+        _ => -1,
+    }
+}
+
+// The ID of the row that has this CODE, or -1.
+fn owner(alloc: Global, tables: &Tables, code: i64) -> Result<i64, Fail> {
+    let Some(table) = tables.dict().def(1) else {
+        return Ok(-1);
+    };
+    if table.keys.items().len() < 2 {
+        return Ok(-1);
+    }
+    let key = Key {
+        table: 1,
+        index: 1,
+        values: Row::of(vec![in alloc; Value::Number(code)]?),
+    };
+    match tables.owner(&key) {
+        None => Ok(-1),
+        Some(primary) => Ok(number(primary, 0)),
+    }
+}
+
+// The ID and the CODE of each row, in order, as decimal digits.
+fn digits(tables: &Tables) -> i64 {
+    let mut digits = 0i64;
+    for row in tables.rows(1) {
+        let id = number(row, 0).clamp(0, 9);
+        let code = number(row, 1).clamp(0, 9);
+        digits = digits.wrapping_mul(100).wrapping_add(id * 10 + code);
+    }
+    digits
+}
+
+fn filled(alloc: Global) -> Result<Tables, Fail>
+    ensures sound { IfOk result (λ tables. AreSound tables.tables) }
+{
+    let tables = empty(alloc)?;
+    let steps = [Step::Insert(2, 7), Step::Insert(1, 6), Step::Insert(3, 8)];
+    moved(alloc, tables, &steps)
+}
+
+#[test]
+fn a_commit_leaves_the_tables_before_it(rt: HostRuntime) -> Result<(), Fail> {
+    let alloc = rt.alloc();
+    let before = filled(alloc)?;
+    let steps = [
+        // Rows 1 and 2 swap their CODE, by way of 9.
+        Step::Update((1, 6), (1, 9)),
+        Step::Update((2, 7), (2, 6)),
+        Step::Update((1, 9), (1, 7)),
+        Step::Delete(3, 8),
+        Step::Insert(4, 8),
+    ];
+    let after = after(alloc, &before, &steps)?;
+    assert_eq!(rt; digits(&before), 162_738);
+    assert_eq!(rt; digits(&after), 172_648);
+    assert_eq!(rt; before.count(), 3);
+    assert_eq!(rt; after.count(), 3);
+    let cases = [(6, 1, 2), (7, 2, 1), (8, 3, 4), (9, -1, -1)];
+    for (code, old, new) in cases {
+        assert_eq!(rt; owner(alloc, &before, code)?, old, "before, of {code}");
+        assert_eq!(rt; owner(alloc, &after, code)?, new, "after, of {code}");
+    }
+    Ok(())
+}
