@@ -3,4 +3,5 @@ pub mod Finding
 pub mod Leading
 pub mod Overlaying
 pub mod Owning
+pub mod Rising
 pub mod Writing

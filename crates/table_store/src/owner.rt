@@ -53,11 +53,13 @@ pub(crate) fn owner_by<'a>(
     let Some(primary) = index.get(values) else {
         return None;
     };
-    let Some(row) = rows.get(primary) else {
-        return None;
-    };
-    if has_values(row, columns.items(), values.values()) {
-        return Some(primary);
+    match rows.get(primary) {
+        None => None,
+        Some(row) => {
+            if has_values(row, columns.items(), values.values()) {
+                return Some(primary);
+            }
+            None
+        }
     }
-    None
 }

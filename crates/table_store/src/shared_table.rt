@@ -1,13 +1,13 @@
 //! A list of tables, each of which the lists before and behind it may have too.
-ghost use Rattle.std.specs.Prelude.{◌≡◌, ◌==◌, IfOk, IfSome, IsTrue, length, [], map, Some};
+ghost use Rattle.std.specs.Prelude.{◌≡◌, ◌≤◌, IfOk, IsTrue, length, nat_lt, true, false, Some};
 ghost use Rattle.std.specs.Arc.{arc_value};
-ghost use Rattle.std.specs.List.{find, AllByRecursion};
+ghost use Rattle.std.specs.List.Sorted.{IsPartitionPoint};
 ghost use Rattle.std.specs.Option.{option_copied};
-ghost use Rattle.redo_vec.specs.declared.table.TableRow.{TableRow};
-ghost use Rattle.redo_spec.specs.Tables.{empty_tables, row_count};
+ghost use Rattle.redo_spec.specs.Dictionary.{ids_rise};
+ghost use Rattle.redo_spec.specs.Tables.{definitions_of, empty_tables, row_count};
 ghost use Rattle.row_apply.specs.Overlaid.{overlaid, table_after, writes_rise};
 ghost use Rattle.row_apply.specs.Soundness.{AreSound, AreSoundRows};
-ghost use Rattle.table_store.specs.Shared.{tables_in, found_in, is_written};
+ghost use Rattle.table_store.specs.Shared.{id_in, tables_in, found_in, if_of_id, is_written};
 
 use crate::stored_table::StoredTable;
 use redo_vec::TableRow;
@@ -79,18 +79,50 @@ pub(crate) fn shared(alloc: Global, tables: &[SharedTable]) -> Result<Vec<Shared
     Ok(copies)
 }
 
+fn is_below(shared: &SharedTable, id: u32) -> bool
+    ensures exact { result ≡ nat_lt (id_in shared.now) id }
+{
+    shared.table.definition().id < id
+}
+
+// The index of the first table whose id is not below this one, or the number of tables.
+fn place_of(tables: &[SharedTable], id: u32) -> usize
+    requires rising { IsTrue (ids_rise 0 (definitions_of (tables_in tables.now))) }
+    ensures bound { result ≤ length tables.now }
+    ensures between { IsPartitionPoint (λ s. nat_lt (id_in s) id ≡ true) (λ s. nat_lt (id_in s) id ≡ false) tables.now result }
+{
+    let mut low = 0;
+    let mut high = tables.len();
+    while low < high {
+        let middle = low + (high - low) / 2;
+        if is_below(&tables[middle], id) {
+            low = middle + 1;
+        } else {
+            high = middle;
+        }
+    }
+    low
+}
+
+fn table_if_of_id(shared: &SharedTable, id: u32) -> Option<&StoredTable>
+    ensures exact { option_copied result ≡ if_of_id id (Some shared.now) }
+{
+    if shared.table.definition().id == id {
+        Some(&shared.table)
+    } else {
+        None
+    }
+}
+
 /// The table of this id.
 pub(crate) fn table_at(tables: &[SharedTable], id: u32) -> Option<&StoredTable>
+    requires rising { IsTrue (ids_rise 0 (definitions_of (tables_in tables.now))) }
     ensures found { option_copied result ≡ found_in id (tables_in tables.now) }
 {
-    let mut rest = tables;
-    while let [shared, others @ ..] = rest {
-        if shared.table.definition().id == id {
-            return Some(&shared.table);
-        }
-        rest = others;
+    match tables.get(place_of(tables, id)) {
+        Some(shared) => table_if_of_id(shared, id),
+        None => None,
     }
-    None
 }
 
 /// How many rows the tables have together.

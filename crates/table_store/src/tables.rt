@@ -116,6 +116,8 @@ impl Tables {
     fn table(&self, id: u32) -> Option<&StoredTable>
         ensures found { option_copied result ≡ found_in id self.now.tables }
     {
+        // The dictionary's tables rise by their ids, and so these do.
+        let _tables = self.dict.tables();
         table_at(self.tables.as_slice(), id)
     }
 
