@@ -9,29 +9,27 @@ use Rattle.std.proofs.lemmas.List.{append-nil, length-append}
 use Rattle.rl_value.specs.Order.{same_bytes}
 use Rattle.rl_value.specs.Outcome.{◌>>=◌, map_ok}
 use Rattle.redo_vec.specs.declared.redo_rec.RedoRec.{RedoRec}
-use Rattle.redo_vec.specs.declared.table.TableRow.{TableRow}
 use Rattle.redo_vec.specs.declared.vector.Vector.{Vector}
 use Rattle.redo_vec.specs.declared.vector.Vector.TheVariants as vectors
 use Rattle.redo_vec.specs.Ranges.{AreBytes, IsVector, IsRecord}
 use Rattle.redo_vec.specs.Spelling.{vector}
 use Rattle.redo_spec.specs.declared.header.Header.{Header}
 use Rattle.redo_spec.specs.Log.{Log, IsHeader, IsLog, IsSpelled, log_bytes}
-use Rattle.redo_text.specs.declared.fault.LineFault.TheVariants as faults
+use Rattle.redo_lines.specs.declared.fault.LineFault.TheVariants as faults
 use Rattle.redo_text.specs.declared.fault.WriteFault.{WriteFault}
 use Rattle.redo_text.specs.declared.heading.Heading.{Heading}
 use Rattle.redo_text.specs.declared.heading.Begun.{Begun}
 use Rattle.redo_text.specs.Draft.{Draft, beginning, add_record, size_of, with_record, closed_at, closed, with_vector, record_line, other_line, line_of_words, says_nothing, line_taken, finished_at, finished}
-use Rattle.redo_text.specs.Fields.{Said, number_said}
+use Rattle.redo_lines.specs.Fields.{Said, number_said}
 use Rattle.redo_text.specs.Heading.{most32, most64, number_alone, given_once, heading_line, behind_log, heading_said, is_heading_word, number_or, scn_after, scn_said, greater, begun_after, next_of, number_there, header_said}
 use Rattle.redo_text.specs.Given.{Tells}
-use Rattle.redo_text.specs.Known.{known_after}
-use Rattle.redo_text.specs.Reading.{Line, vector_of_words}
+use Rattle.redo_lines.specs.Known.{HaveIds, known_after}
+use Rattle.redo_lines.specs.Reading.{Line, vector_of_words, vector_said}
 use Rattle.redo_text.specs.Text.{Bad, at_line, last_line, text_from, log_of, log_said}
-use Rattle.redo_text.specs.Words.{split, space}
-use Rattle.redo_text.proofs.ListLaws.{each-append}
-use Rattle.redo_text.proofs.SaidSteps.{bind_ok, passed, chosen, said, ok_is, ended, parts_bytes}
-use Rattle.redo_text.proofs.SaidFields.{number_sound}
-use Rattle.redo_text.proofs.SaidVectors.{Worded, Ids, vector_sound}
+use Rattle.redo_lines.specs.Words.{split, space}
+use Rattle.redo_lines.proofs.ListLaws.{each-append}
+use Rattle.redo_lines.proofs.SaidSteps.{bind_ok, passed, chosen, said, ok_is, ended}
+use Rattle.redo_text.proofs.LineLaws.{Fitting}
 
 abbrev Records : Type 0
 Records = List RedoRec
@@ -49,20 +47,20 @@ record HeadFits (h : Heading) : Type 0 where
   first : Below (2 ^ 64) h.first
   next : Below (2 ^ 64) h.next
 
-alone_sound : (most n : ℕ) (words : Line) → number_alone most words ≡ Ok n → n ≤ most
+alone_sound : (law : Fitting) (most n : ℕ) (words : Line) → number_alone most words ≡ Ok n → n ≤ most
 unfolding number_alone
-alone_sound most n [] e = absurd cc
-alone_sound most n (word ∷ words) e =
+alone_sound law most n [] e = absurd cc
+alone_sound law most n (word ∷ words) e =
     let a = bind_ok (number_said most word) _ n e in
-    subst (λ (k : ℕ). k ≤ most) (ended words a.0 n a.2) (number_sound most a.0 word a.1)
+    subst (λ (k : ℕ). k ≤ most) (ended words a.0 n a.2) (law.number_fits most a.0 word a.1)
 
-once_sound : (most limit : ℕ) (given : Option ℕ) (words : Line) (o : Option ℕ) → most < limit →
+once_sound : (law : Fitting) (most limit : ℕ) (given : Option ℕ) (words : Line) (o : Option ℕ) → most < limit →
     given_once most given words ≡ Ok o → Below limit o
 unfolding given_once
-once_sound most limit (Some n) words o h e = absurd cc
-once_sound most limit None words o h e =
+once_sound law most limit (Some n) words o h e = absurd cc
+once_sound law most limit None words o h e =
     let a = bind_ok (number_alone most words) _ o e in
-    let low : a.0 ≤ most = alone_sound most a.0 words a.1 in
+    let low : a.0 ≤ most = alone_sound law most a.0 words a.1 in
     let below : a.0 < limit = omega arith in
     subst (Below limit) (ok_is (Some a.0) o a.2) below
 
@@ -75,25 +73,40 @@ refused k e = cc
 true_false : true ≡ false → ⊥
 true_false e = cc
 
-heading_line_sound : (h : Heading) (keyword : List ℕ) (words : Line) (k : Heading) → HeadFits h →
+heading_line_sound : (law : Fitting) (h : Heading) (keyword : List ℕ) (words : Line) (k : Heading) → HeadFits h →
     heading_line h keyword words ≡ Ok k → HeadFits k
 unfolding heading_line
-heading_line_sound h keyword words k ok e =
+heading_line_sound law h keyword words k ok e =
     elim (chosen (same_bytes keyword (codes "DBID")) _ _ (Ok k) e) [
       | inl s ↦
           let a = bind_ok (given_once most32 h.dbid words) _ k s.1 in
           subst HeadFits (ok_is (record h { dbid = a.0 }) k a.2)
-          (record { seq = ok.seq; dbid = once_sound most32 (2 ^ 32) h.dbid words a.0 (omega arith) a.1; first = ok.first; next = ok.next })
+          (record {
+            seq = ok.seq;
+            dbid = once_sound law most32 (2 ^ 32) h.dbid words a.0 (omega arith) a.1;
+            first = ok.first;
+            next = ok.next;
+          })
       | inr s ↦ elim (chosen (same_bytes keyword (codes "FIRST")) _ _ (Ok k) s.1) [
         | inl t ↦
             let a = bind_ok (given_once most64 h.first words) _ k t.1 in
             subst HeadFits (ok_is (record h { first = a.0 }) k a.2)
-            (record { seq = ok.seq; dbid = ok.dbid; first = once_sound most64 (2 ^ 64) h.first words a.0 (omega arith) a.1; next = ok.next })
+            (record {
+              seq = ok.seq;
+              dbid = ok.dbid;
+              first = once_sound law most64 (2 ^ 64) h.first words a.0 (omega arith) a.1;
+              next = ok.next;
+            })
         | inr t ↦ elim (chosen (same_bytes keyword (codes "NEXT")) _ _ (Ok k) t.1) [
           | inl u ↦
               let a = bind_ok (given_once most64 h.next words) _ k u.1 in
               subst HeadFits (ok_is (record h { next = a.0 }) k a.2)
-              (record { seq = ok.seq; dbid = ok.dbid; first = ok.first; next = once_sound most64 (2 ^ 64) h.next words a.0 (omega arith) a.1 })
+              (record {
+                seq = ok.seq;
+                dbid = ok.dbid;
+                first = ok.first;
+                next = once_sound law most64 (2 ^ 64) h.next words a.0 (omega arith) a.1;
+              })
           | inr u ↦ absurd (refused k u.1)
         ]
       ]
@@ -103,16 +116,21 @@ behind_sound : (seq : Option ℕ) (r : Said Heading) (k : Heading) → (r ≡ Ok
 behind_sound None r k each e = absurd cc
 behind_sound (Some n) r k each e = each e
 
-heading_sound : (h : Heading) (keyword : List ℕ) (words : Line) (k : Heading) → HeadFits h →
+heading_sound : (law : Fitting) (h : Heading) (keyword : List ℕ) (words : Line) (k : Heading) → HeadFits h →
     heading_said h keyword words ≡ Ok k → HeadFits k
 unfolding heading_said
-heading_sound h keyword words k ok e =
+heading_sound law h keyword words k ok e =
     elim (chosen (same_bytes keyword (codes "LOG")) _ _ (Ok k) e) [
       | inl s ↦
           let a = bind_ok (given_once most32 h.seq words) _ k s.1 in
           subst HeadFits (ok_is (record h { seq = a.0 }) k a.2)
-          (record { seq = once_sound most32 (2 ^ 32) h.seq words a.0 (omega arith) a.1; dbid = ok.dbid; first = ok.first; next = ok.next })
-      | inr s ↦ behind_sound h.seq (heading_line h keyword words) k (heading_line_sound h keyword words k ok) s.1
+          (record {
+            seq = once_sound law most32 (2 ^ 32) h.seq words a.0 (omega arith) a.1;
+            dbid = ok.dbid;
+            first = ok.first;
+            next = ok.next;
+          })
+      | inr s ↦ behind_sound h.seq (heading_line h keyword words) k (heading_line_sound law h keyword words k ok) s.1
     ]
 
 -- ---- how far the records have come
@@ -145,12 +163,12 @@ after_sound h None n scn ok fits e =
     subst (λ (k : ℕ). k < 2 ^ 64) (ok_is (number_or 1 h.first) scn e) (or_below h.first ok.first)
 after_sound h (Some b) n scn ok fits e = above_sound b.scn scn fits.scn e
 
-scn_sound : (h : Heading) (o : Option Begun) (n : ℕ) (words : Line) (scn : ℕ) → HeadFits h → BegunFits o n →
+scn_sound : (law : Fitting) (h : Heading) (o : Option Begun) (n : ℕ) (words : Line) (scn : ℕ) → HeadFits h → BegunFits o n →
     scn_said h o words ≡ Ok scn → scn < 2 ^ 64
 unfolding scn_said
-scn_sound h o n [] scn ok fits e = after_sound h o n scn ok fits e
-scn_sound h o n (w ∷ ws) scn ok fits e =
-    let low : scn ≤ most64 = alone_sound most64 scn (w ∷ ws) e in omega arith
+scn_sound law h o n [] scn ok fits e = after_sound h o n scn ok fits e
+scn_sound law h o n (w ∷ ws) scn ok fits e =
+    let low : scn ≤ most64 = alone_sound law most64 scn (w ∷ ws) e in omega arith
 
 greater_below : (t : Bool) (a b : ℕ) → a < 2 ^ 64 → b < 2 ^ 64 → (if t then b else a) < 2 ^ 64
 greater_below true a b p q = q
@@ -182,7 +200,7 @@ begun_sound (Some b) n scn c fits low e =
 -- all but how far the records have come
 record Fits (d : Draft Records) : Type 0 where
   heading : HeadFits d.heading
-  tables : Ids d.tables
+  tables : HaveIds d.tables
   vectors : AllByRecursion IsVector d.vectors
   few : length d.vectors ≤ 255
   short : size_of d.vectors ≤ 65536
@@ -247,26 +265,13 @@ size_more vs v =
     let g = ap length (append-nil (vector v)) in
     omega (arith, e, f, g)
 
-kept_ids : (t : Bool) (tables : List TableRow) (row : TableRow) → Ids tables → row.id < 2 ^ 32 →
-    Ids (if t then tables ++ row ∷ [] else tables)
-kept_ids true tables row ids low = each-append (λ t. t.id < 2 ^ 32) tables (row ∷ []) ids (low, tt)
-kept_ids false tables row ids low = ids
-
-known_ids : (tables : List TableRow) (v : Vector) → Ids tables → IsVector v → Ids (known_after tables v)
-known_ids tables (vectors.Start x) ids ok = ids
-known_ids tables (vectors.Change c) ids ok = ids
-known_ids tables (vectors.Undo x) ids ok = ids
-known_ids tables (vectors.Commit x) ids ok = ids
-known_ids tables (vectors.Rollback x) ids ok = ids
-known_ids tables (vectors.Table t) ids ok = kept_ids (nat_lt (length tables) 256) tables t ids ok.id
-known_ids tables vectors.DictEnd ids ok = ids
-
 lt_from_no : (a b : ℕ) → nat_le a b ≡ false → b < a
 lt_from_no a b e = grind (arith, nat_tests)
 
-with_vector_sound : (d e : Draft Records) (v : Vector) → IsDraft d → IsVector v → with_vector d v ≡ Ok e → IsDraft e
+with_vector_sound : (law : Fitting) (d e : Draft Records) (v : Vector) → IsDraft d → IsVector v →
+    with_vector d v ≡ Ok e → IsDraft e
 unfolding with_vector
-with_vector_sound d e v ok fits eq =
+with_vector_sound law d e v ok fits eq =
     let a = passed (nat_le 255 (length d.vectors)) faults.Many _ e eq in
     let b = passed (nat_lt 65536 (size_of d.vectors + length (vector v))) faults.Long _ e a.1 in
     let room : length d.vectors < 255 = lt_from_no 255 (length d.vectors) a.0 in
@@ -279,7 +284,7 @@ with_vector_sound d e v ok fits eq =
     (record {
       fits = record {
         heading = ok.fits.heading;
-        tables = known_ids d.tables v ok.fits.tables fits;
+        tables = law.tables_fit d.tables v ok.fits.tables fits;
         vectors = each-append IsVector d.vectors (v ∷ []) ok.fits.vectors (fits, tt);
         few = few;
         short = small;
@@ -288,9 +293,10 @@ with_vector_sound d e v ok fits eq =
       open_fits = ok.open_fits;
     })
 
-record_line_sound : (d e : Draft Records) (words : Line) → IsDraft d → record_line add_record d words ≡ Ok e → IsDraft e
+record_line_sound : (law : Fitting) (d e : Draft Records) (words : Line) → IsDraft d →
+    record_line add_record d words ≡ Ok e → IsDraft e
 unfolding record_line
-record_line_sound d e words ok eq =
+record_line_sound law d e words ok eq =
     let a = bind_ok (closed add_record d) _ e eq in
     let b = bind_ok (number_there a.0.heading.dbid) _ e a.2 in
     let c = bind_ok (scn_said a.0.heading a.0.begun words) _ e b.2 in
@@ -298,7 +304,7 @@ record_line_sound d e words ok eq =
     let g = closed_sound d a.0 ok.fits ok.open_fits a.1 in
     let begun : BegunFits a.0.begun (length a.0.done) =
     subst (λ (o : Option Begun). BegunFits o (length a.0.done)) (sym g.same) g.counted in
-    let low = scn_sound a.0.heading a.0.begun (length a.0.done) words c.0 g.fits.heading begun c.1 in
+    let low = scn_sound law a.0.heading a.0.begun (length a.0.done) words c.0 g.fits.heading begun c.1 in
     let next = begun_sound a.0.begun (length a.0.done) c.0 f.0 begun low f.1 in
     subst IsDraft (ok_is (record a.0 { begun = Some f.0 }) e f.2) (record {
       fits = record {
@@ -312,14 +318,15 @@ record_line_sound d e words ok eq =
       open_fits = next;
     })
 
-other_line_sound : (o : Option Begun) (d e : Draft Records) (keyword : List ℕ) (words : Line) → IsDraft d → Worded words →
-    other_line o d keyword words ≡ Ok e → IsDraft e
+other_line_sound : (law : Fitting) (o : Option Begun) (d e : Draft Records) (keyword : List ℕ) (words : Line) → IsDraft d →
+    ((v : Vector) → vector_of_words d.tables keyword words ≡ Ok v → IsVector v)
+    → other_line o d keyword words ≡ Ok e → IsDraft e
 unfolding other_line
-other_line_sound None d e keyword words ok bytes eq =
+other_line_sound law None d e keyword words ok fits eq =
     let a = bind_ok (heading_said d.heading keyword words) _ e eq in
     subst IsDraft (ok_is (record d { heading = a.0 }) e a.2) (record {
       fits = record {
-        heading = heading_sound d.heading keyword words a.0 ok.fits.heading a.1;
+        heading = heading_sound law d.heading keyword words a.0 ok.fits.heading a.1;
         tables = ok.fits.tables;
         vectors = ok.fits.vectors;
         few = ok.fits.few;
@@ -328,26 +335,28 @@ other_line_sound None d e keyword words ok bytes eq =
       };
       open_fits = ok.open_fits;
     })
-other_line_sound (Some b) d e keyword words ok bytes eq =
+other_line_sound law (Some b) d e keyword words ok fits eq =
     let g = passed (is_heading_word keyword) faults.Order _ e eq in
     let a = bind_ok (vector_of_words d.tables keyword words) _ e g.1 in
-    with_vector_sound d e a.0 ok (vector_sound d.tables keyword words a.0 ok.fits.tables bytes a.1) a.2
+    with_vector_sound law d e a.0 ok (fits a.0 a.1) a.2
 
-words_sound : (d e : Draft Records) (words : Line) → IsDraft d → Worded words → line_of_words add_record d words ≡ Ok e → IsDraft e
-unfolding line_of_words
-words_sound d e [] ok bytes eq = absurd cc
-words_sound d e (keyword ∷ words) ok bytes eq =
+words_sound : (law : Fitting) (d e : Draft Records) (words : Line) → IsDraft d →
+    ((v : Vector) → vector_said d.tables words ≡ Ok v → IsVector v) → line_of_words add_record d words ≡ Ok e → IsDraft e
+unfolding line_of_words vector_said
+words_sound law d e [] ok fits eq = absurd cc
+words_sound law d e (keyword ∷ words) ok fits eq =
     elim (chosen (same_bytes keyword (codes "RECORD")) _ _ (Ok e) eq) [
-      | inl s ↦ record_line_sound d e words ok s.1
-      | inr s ↦ other_line_sound d.begun d e keyword words ok bytes.1 s.1
+      | inl s ↦ record_line_sound law d e words ok s.1
+      | inr s ↦ other_line_sound law d.begun d e keyword words ok fits s.1
     ]
 
-taken_sound : (d e : Draft Records) (line : List ℕ) → IsDraft d → AreBytes line → line_taken add_record d line ≡ Ok e → IsDraft e
+taken_sound : (law : Fitting) (d e : Draft Records) (line : List ℕ) → IsDraft d → AreBytes line →
+    line_taken add_record d line ≡ Ok e → IsDraft e
 unfolding line_taken
-taken_sound d e line ok bytes eq =
+taken_sound law d e line ok bytes eq =
     elim (chosen (says_nothing line) (Ok d) _ (Ok e) eq) [
       | inl s ↦ subst IsDraft (ok_is d e s.1) ok
-      | inr s ↦ words_sound d e (split space line) ok (parts_bytes space line bytes) s.1
+      | inr s ↦ words_sound law d e (split space line) ok (λ v h. law.vector_fits d.tables line v ok.fits.tables bytes h) s.1
     ]
 
 -- ---- the end
@@ -416,22 +425,22 @@ line_is : {A : Type 0} (n : ℕ) (r : Said A) (y : A) → at_line n r ≡ Ok y �
 line_is n (Ok x) y e = ap said (whole_is x y e)
 line_is n (Err f) y e = absurd cc
 
-last_sound : (d : Draft Records) (n : ℕ) (line : List ℕ) (y : Header × Records) → IsDraft d → AreBytes line →
+last_sound : (law : Fitting) (d : Draft Records) (n : ℕ) (line : List ℕ) (y : Header × Records) → IsDraft d → AreBytes line →
     last_line add_record d n line ≡ Ok y → Whole y
-last_sound d n line y ok bytes e =
+last_sound law d n line y ok bytes e =
     let a = bind_ok (line_taken add_record d line) _ y (line_is n (line_taken add_record d line >>= λ f. finished add_record f) y e) in
-    end_sound a.0 y (taken_sound d a.0 line ok bytes a.1) a.2
+    end_sound a.0 y (taken_sound law d a.0 line ok bytes a.1) a.2
 
-text_sound : (d : Draft Records) (n : ℕ) (line bytes : List ℕ) (y : Header × Records) → IsDraft d → AreBytes line → AreBytes bytes →
-    text_from add_record d n line bytes ≡ Ok y → Whole y
-text_sound d n line [] y ok p q e = last_sound d n line y ok p e
-text_sound d n line (b ∷ bytes) y ok p q e =
+text_sound : (law : Fitting) (d : Draft Records) (n : ℕ) (line bytes : List ℕ) (y : Header × Records) → IsDraft d →
+    AreBytes line → AreBytes bytes → text_from add_record d n line bytes ≡ Ok y → Whole y
+text_sound law d n line [] y ok p q e = last_sound law d n line y ok p e
+text_sound law d n line (b ∷ bytes) y ok p q e =
     elim (chosen (b == 10) _ _ (Ok y) e) [
       | inl s ↦
           let a = bind_ok (at_line n (line_taken add_record d line)) _ y s.1 in
-          text_sound a.0 (n + 1) [] bytes y
-          (taken_sound d a.0 line ok p (line_is n (line_taken add_record d line) a.0 a.1)) tt q.1 a.2
-      | inr s ↦ text_sound d n (line ++ b ∷ []) bytes y ok (each-append (λ c. c < 256) line (b ∷ []) p (q.0, tt)) q.1 s.1
+          text_sound law a.0 (n + 1) [] bytes y
+          (taken_sound law d a.0 line ok p (line_is n (line_taken add_record d line) a.0 a.1)) tt q.1 a.2
+      | inr s ↦ text_sound law d n (line ++ b ∷ []) bytes y ok (each-append (λ c. c < 256) line (b ∷ []) p (q.0, tt)) q.1 s.1
     ]
 
 beginning_sound : IsDraft (beginning [])
@@ -451,11 +460,11 @@ log_there : (r : Result (Header × Records) Bad) (l : Log) → map_ok log_of r �
 log_there (Ok y) l e = (y, refl, whole_is (log_of y) l e)
 log_there (Err b) l e = absurd cc
 
-pub log_sound : (text : List ℕ) (l : Log) → AreBytes text → log_said text ≡ Ok l → IsLog l
+pub log_sound : Fitting → (text : List ℕ) (l : Log) → AreBytes text → log_said text ≡ Ok l → IsLog l
 unfolding log_said
-log_sound text l bytes e =
+log_sound law text l bytes e =
     let a = log_there (text_from add_record (beginning []) 1 [] text) l e in
-    subst IsLog a.2 (text_sound (beginning []) 1 [] text a.0 beginning_sound tt bytes a.1)
+    subst IsLog a.2 (text_sound law (beginning []) 1 [] text a.0 beginning_sound tt bytes a.1)
 
 -- ---- what is written
 
@@ -463,10 +472,11 @@ spelled_said : (r : Result Log Bad) (bytes : List ℕ) → map_ok log_bytes r �
 spelled_said (Ok l) bytes e = (l, refl, whole_is (log_bytes l) bytes e)
 spelled_said (Err b) bytes e = absurd cc
 
-pub spelled_given : {X : Type 0} (r : Result X WriteFault) (view : X → List ℕ) (text : List ℕ) → AreBytes text →
+pub spelled_given : {X : Type 0} → ((text : List ℕ) (l : Log) → AreBytes text → log_said text ≡ Ok l → IsLog l) →
+    (r : Result X WriteFault) (view : X → List ℕ) (text : List ℕ) → AreBytes text →
     Tells view r (map_ok log_bytes (log_said text))
     → IfOk r (λ x. (l : Log) × (log_said text ≡ Ok l) × IsSpelled l (view x))
-spelled_given (Ok x) view text bytes given =
+spelled_given fits (Ok x) view text bytes given =
     let a = spelled_said (log_said text) (view x) given in
-    (a.0, a.1, record { log = log_sound text a.0 bytes a.1; spelled = sym a.2 })
-spelled_given (Err e) view text bytes given = tt
+    (a.0, a.1, record { log = fits text a.0 bytes a.1; spelled = sym a.2 })
+spelled_given fits (Err e) view text bytes given = tt

@@ -1,22 +1,10 @@
--- What a reader of the code gives, beside what its line says.
+-- What a writer of the code gives, beside what its text says.
 use Rattle.std.specs.Prelude.{◌≡◌, Result, Ok, Err, ⊤}
-use Rattle.redo_text.specs.declared.fault.ReadFault.{ReadFault}
-use Rattle.redo_text.specs.declared.fault.ReadFault.TheVariants as reads
 use Rattle.redo_text.specs.declared.fault.WriteFault.{WriteFault}
 use Rattle.redo_text.specs.declared.fault.WriteFault.TheVariants as writes
-use Rattle.redo_text.specs.Fields.{Said}
 use Rattle.redo_text.specs.Text.{Bad}
 
--- the same fault, unless memory ran out
-abbrev pub Fails : {Y : Type 0} → ReadFault → Said Y → Type 0
-Fails reads.Memory said = ⊤
-Fails (reads.Line fault) said = said ≡ Err fault
-
-abbrev pub Gives : {X Y : Type 0} → (X → Y) → Result X ReadFault → Said Y → Type 0
-Gives view (Ok x) said = said ≡ Ok (view x)
-Gives view (Err e) said = Fails e said
-
--- the same of a text, whose fault is that of a line
+-- the same bad line and fault, unless memory ran out
 abbrev pub FailsAt : {Y : Type 0} → WriteFault → Result Y Bad → Type 0
 FailsAt writes.Memory said = ⊤
 FailsAt (writes.Line line fault) said = said ≡ Err (record { line = line; fault = fault })

@@ -1,11 +1,6 @@
-pub mod Words
-pub mod Fields
-pub mod Known
-pub mod Reading
-pub mod Given
-pub mod Printing
 pub mod Heading
 pub mod Draft
 pub mod Text
+pub mod Given
 pub mod Showing
 pub mod FaultLine

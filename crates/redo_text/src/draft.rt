@@ -5,18 +5,15 @@ ghost use Rattle.std.specs.Prelude.{◌≡◌, ◌≤◌, ◌+◌, ◌++◌, ◌
 ghost use Rattle.std.specs.List.{flat_map};
 ghost use Rattle.redo_vec.specs.Spelling.{be16, be32, be64, vector, record_bytes};
 ghost use Rattle.redo_spec.specs.Log.{header_bytes};
-ghost use Rattle.redo_text.specs.Given.{Gives};
+ghost use Rattle.redo_lines.specs.Given.{Gives};
 ghost use Rattle.redo_text.specs.Draft.{beginning, add_bytes, size_of, with_record, closed, with_vector, record_line, other_line, line_of_words, says_nothing, line_taken, finished};
 
-use crate::fault::{LineFault, ReadFault};
 use crate::heading::{
     Begun, Heading, begun_after, header_of, heading_of, is_heading_word, no_heading, number_there,
     scn_of,
 };
-use crate::known::note_vector;
-use crate::reading::vector_of_words;
 use crate::sizes::vector_size;
-use crate::words::{is_word, split};
+use redo_lines::{LineFault, ReadFault, is_word, note_vector, split, vector_of_words};
 use redo_spec::Header;
 use redo_vec::{MAX_RECORD, MAX_VECTORS, RedoRec, TableRow, Vector, Vectors, encode_record};
 use rl_value::Bytes;

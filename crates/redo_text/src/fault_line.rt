@@ -4,11 +4,7 @@ ghost use Rattle.std.specs.Fmt.{decimal};
 ghost use Rattle.redo_spec.specs.Lines as lines;
 ghost use Rattle.redo_text.specs.FaultLine.{fault_words, bytes_words, fault_line};
 
-use crate::known::decimal_of;
-use crate::printing::put_keyword;
-use crate::printing_changes::literal_of;
-use crate::printing_tables::raw_of;
-use crate::words::{joined, push_bytes, push_part};
+use redo_lines::{decimal_of, joined, push_bytes, push_part, put_keyword, raw_literal};
 use rl_value::{Bytes, CutFault, HeadFault, NoMemory, VecFault};
 use std::alloc::Global;
 
@@ -91,8 +87,7 @@ fn put_bytes(alloc: Global, words: &mut Vec<Bytes>, bytes: &[u8]) -> Result<(), 
     match bytes {
         [] => Ok(()),
         [_, ..] => {
-            let raw = raw_of(alloc, bytes)?;
-            let word = literal_of(alloc, &raw)?;
+            let word = raw_literal(alloc, bytes)?;
             push_part(words, word)
         }
     }

@@ -5,9 +5,7 @@ ghost use Rattle.std.specs.Prelude.{◌≡◌, ◌+◌, ◌≤◌, ◌==◌, ◌
 ghost use Rattle.rl_value.specs.Order.{same_bytes};
 ghost use Rattle.redo_text.specs.Heading.{no_heading, number_alone, given_once, heading_line, behind_log, heading_said, is_heading_word, number_or, scn_after, scn_said, greater, begun_after, next_of, number_there, header_said};
 
-use crate::fault::LineFault;
-use crate::fields::number_of;
-use crate::words::is_word;
+use redo_lines::{LineFault, is_word, number_of};
 use redo_spec::Header;
 use rl_value::Bytes;
 

@@ -3,13 +3,11 @@
 //! What is printed of a log as a whole is written as the same log (`a_shown_log_is_said`).
 ghost use Rattle.std.specs.Prelude.{◌≡◌, ◌++◌, ◌∷◌, [], IfOk, OnOk, codes};
 ghost use Rattle.std.specs.Fmt.{decimal};
-ghost use Rattle.redo_text.specs.Known.{known_after};
-ghost use Rattle.redo_text.specs.Printing.{line_of_vector};
+ghost use Rattle.redo_lines.specs.Known.{known_after};
+ghost use Rattle.redo_lines.specs.Printing.{line_of_vector};
 ghost use Rattle.redo_text.specs.Showing.{with_end, number_line, heading_text, vectors_text, known_behind, record_text};
 
-use crate::known::{decimal_of, note_vector};
-use crate::printing::print_vector;
-use crate::words::{joined_two, push_bytes};
+use redo_lines::{decimal_of, joined_two, note_vector, print_vector, push_bytes};
 use redo_spec::Header;
 use redo_vec::{RedoRec, TableRow, Vector};
 use rl_value::NoMemory;

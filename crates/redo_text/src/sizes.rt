@@ -5,7 +5,7 @@ ghost use Rattle.rl_value.specs.Text.{are_cells};
 ghost use Rattle.redo_vec.specs.Forms.{is_key_columns};
 ghost use Rattle.redo_vec.specs.Spelling.{value, cell, cells, change, name, column, key, keys, table, vector};
 
-use crate::known::few_columns;
+use redo_lines::few_columns;
 use redo_vec::{Change, Column, KeyColumns, KeyLists, Line30, TableRow, Vector};
 use rl_value::{Cells, Value};
 

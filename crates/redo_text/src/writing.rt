@@ -8,7 +8,9 @@ ghost use Rattle.redo_text.specs.Draft.{add_bytes, beginning, line_taken, finish
 ghost use Rattle.redo_text.specs.Text.{at_line, last_line, text_from, bytes_said, log_said};
 
 use crate::draft::Draft;
-use crate::fault::{ReadFault, WriteFault};
+use crate::fault::WriteFault;
+use crate::laws::a_text_says_a_log;
+use redo_lines::ReadFault;
 use redo_spec::Header;
 use std::alloc::{AllocError, Global};
 
@@ -142,5 +144,6 @@ pub fn write_log(alloc: Global, text: &[u8]) -> Result<Vec<u8>, WriteFault>
     // The log has a spelling, and it is this.
     ensures spelled { IfOk result (λ bytes. (log : Log) × (log_said text.now ≡ Ok log) × IsSpelled log bytes.items) }
 {
+    a_text_says_a_log();
     bytes_of(alloc, text)
 }

@@ -11,6 +11,6 @@ returns-clause-exact c = rw (← bytes_of_log c.args.text.now) c.bytes_of.ensure
 
 pub returns-clause-spelled : goal.returns-clause-spelled
 returns-clause-spelled c =
-    spelled_given c.bytes_of.result (λ bytes. bytes.items) c.args.text.now
+    spelled_given c.a_text_says_a_log.ensures.fits c.bytes_of.result (λ bytes. bytes.items) c.args.text.now
     (recursion_from_All (λ b. b < 2 ^ 8) c.args.text.now (AreBytes-from_fits c.args.text.now c.type_inv.text))
     (rw (← bytes_of_log c.args.text.now) c.bytes_of.ensures)

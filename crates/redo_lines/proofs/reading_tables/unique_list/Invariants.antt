@@ -1,0 +1,11 @@
+use Rattle.std.proofs.Common.{◌≡◌, [], ◌∷◌, length}
+use Rattle.redo_lines.specs.Reading.{items_until, with_front, never, key_said}
+use Rattle.redo_lines.proofs.reading_tables.unique_list.Given as goal
+
+-- what is read, and what is still to be read, is what the words say
+abbrev pub invariant-loop-rest : goal.invariant-loop-rest
+invariant-loop-rest l = with_front l.keys.items (items_until never (key_said l.columns) l.rest) ≡
+    with_front (l.fn.primary ∷ []) (items_until never (key_said l.columns) l.words)
+
+abbrev pub decreases-loop-rest : goal.decreases-loop-rest
+decreases-loop-rest l = length l.rest
