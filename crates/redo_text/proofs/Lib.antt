@@ -3,3 +3,5 @@ pub mod LineLaws
 pub mod SpelledDrafts
 pub mod TextLaws
 pub mod SaidText
+pub mod Framed
+pub mod StreamTexts

@@ -4,3 +4,4 @@ pub mod Text
 pub mod Given
 pub mod Showing
 pub mod FaultLine
+pub mod Streaming

@@ -1,13 +1,19 @@
 //! Printing and reading agree: what the crates above may use of it.
 //!
 //! Each function here only calls the laws that its own follows from; its clauses are the law.
-ghost use Rattle.std.specs.Prelude.{◌≡◌, ◌≤◌, Ok, List, ℕ, length};
+ghost use Rattle.std.specs.Prelude.{◌≡◌, ◌≤◌, ◌∷◌, [], Ok, List, ℕ, length};
+ghost use Rattle.std.specs.List.{flat_map, concat};
+ghost use Rattle.redo_spec.specs.declared.header.Header.{Header};
 ghost use Rattle.redo_vec.specs.Ranges.{AreBytes};
+ghost use Rattle.redo_vec.specs.Spelling.{record_bytes};
+ghost use Rattle.redo_text.specs.Streaming.{shown_at, pieces_text};
 ghost use Rattle.redo_spec.specs.Log.{Log, IsLog};
-ghost use Rattle.redo_text.specs.Showing.{text_of_log};
+ghost use Rattle.redo_text.specs.Showing.{text_of_log, records_text};
 ghost use Rattle.redo_text.specs.Text.{log_said};
 
 use redo_lines::{a_line_says_what_fits, a_printed_number_is_read, a_printed_vector_is_read};
+use redo_vec::a_spelled_record_is_read;
+use redo_wire::{pieces_do_not_matter, pieces_give_the_records};
 
 /// A log that has a spelling and a record is said by the text that is printed for it.
 pub fn a_shown_log_is_said()
@@ -22,4 +28,21 @@ pub fn a_text_says_a_log()
     ensures fits { (text : List ℕ) (log : Log) → AreBytes text → log_said text ≡ Ok log → IsLog log }
 {
     a_line_says_what_fits();
+}
+
+/// In which pieces a log comes is no matter to its text.
+pub fn pieces_are_shown_as_one()
+    ensures same { (head : Header) (pieces : List (List ℕ)) →
+        pieces_text (shown_at head) pieces ≡ pieces_text (shown_at head) (concat pieces ∷ []) }
+{
+    pieces_do_not_matter();
+}
+
+/// A log that has a spelling is shown, from its bytes behind the header, as the text that says its records.
+pub fn a_spelled_log_is_shown()
+    ensures shown { (log : Log) (pieces : List (List ℕ)) → IsLog log → concat pieces ≡ flat_map record_bytes log.records →
+        pieces_text (shown_at log.head) pieces ≡ records_text [] log.records }
+{
+    a_spelled_record_is_read();
+    pieces_give_the_records();
 }

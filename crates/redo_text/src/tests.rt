@@ -1,10 +1,14 @@
-//! The first log as a text, what is shown, and the first bad line of texts.
+//! The first log as a text, what is shown of a log and of its pieces, and the first bad line of texts.
+ghost use Rattle.std.specs.Prelude.{◌<◌};
+
 use crate::{
-    LineFault, LogFault, WriteFault, read_vector, show_fault, show_header, show_record, write_log,
+    LineFault, LogFault, Shown, WriteFault, read_vector, show_fault, show_header, show_record,
+    write_log,
 };
 use redo_spec::Header;
 use redo_vec::{RedoRec, TableRow, Vectors};
 use rl_value::VecFault;
+use std::alloc::Global;
 use std::test::Fail;
 
 // The log of examples/first_log, byte by byte as its page has it.
@@ -128,5 +132,53 @@ fn a_fault_is_shown_with_its_bytes(rt: HostRuntime) -> Result<(), Fail> {
         &[],
     )?;
     assert_eq!(rt; line.as_slice(), b"FAULT 1 HEADER SHORT 0\n".as_slice());
+    Ok(())
+}
+
+const HEAD: Header = Header {
+    seq: 1,
+    dbid: 9,
+    first: 100,
+    next: 200,
+    count: 3,
+};
+
+// The lines behind those of the header that a log's bytes give, so many of them at a time.
+fn shown(alloc: Global, bytes: &[u8], size: usize) -> Result<Vec<u8>, Fail>
+    requires some { 0 < size }
+{
+    let mut log = Shown::new(alloc, HEAD);
+    let mut text = Vec::new(alloc);
+    for piece in bytes.chunks(size) {
+        let (next, lines) = log.feed(alloc, piece)?;
+        text.extend_from_slice(lines.as_slice())?;
+        log = next;
+    }
+    let line = log.finish(alloc)?;
+    text.extend_from_slice(line.as_slice())?;
+    Ok(text)
+}
+
+#[test]
+fn a_log_is_shown_in_pieces_of_any_length(rt: HostRuntime) -> Result<(), Fail> {
+    let want =
+        "RECORD 100\nTABLE 1 T.A COLUMNS ID:NUMBER KEY ID\nDICTEND\nRECORD 101\nSTART 1.2.3\n\
+        INSERT 1.2.3 T.A NEW ID=7\nRECORD 102\nCOMMIT 1.2.3\n";
+    for size in [1, 7, 200] {
+        let text = shown(rt.alloc(), &FIRST_LOG[40..], size)?;
+        assert_eq!(rt; text.as_slice(), want.as_bytes(), "at {size}");
+    }
+    Ok(())
+}
+
+#[test]
+fn a_fault_ends_what_is_shown(rt: HostRuntime) -> Result<(), Fail> {
+    let mut log = FIRST_LOG;
+    log[98] = 10;
+    let text = shown(rt.alloc(), &log[75..], 7)?;
+    let want = "FAULT 1 KIND 63 X'0A000100020000000300000001000100'\n";
+    assert_eq!(rt; text.as_slice(), want.as_bytes());
+    let text = shown(rt.alloc(), &FIRST_LOG[123..145], 7)?;
+    assert_eq!(rt; text.as_slice(), b"FAULT 1 TRUNCATED 40\n".as_slice());
     Ok(())
 }
