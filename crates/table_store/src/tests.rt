@@ -5,6 +5,7 @@ ghost use Rattle.redo_spec.specs.Tables.{definitions_of};
 ghost use Rattle.row_apply.specs.Overlaid.{overlaid, are_of};
 ghost use Rattle.row_apply.specs.Soundness.{AreSound};
 
+use crate::fault::StoreFault;
 use crate::tables::Tables;
 use redo_dict::Dict;
 use redo_vec::{Change, Column, Columns, KeyColumns, KeyLists, Kind, Line30, Op, TableRow};
@@ -209,5 +210,67 @@ fn a_commit_leaves_the_tables_before_it(rt: HostRuntime) -> Result<(), Fail> {
         assert_eq!(rt; owner(alloc, &before, code)?, old, "before, of {code}");
         assert_eq!(rt; owner(alloc, &after, code)?, new, "after, of {code}");
     }
+    Ok(())
+}
+
+// The row of this ID, with no CODE.
+fn bare(alloc: Global, id: u32) -> Result<Change, Fail> {
+    let new = Cells::of(vec![in alloc; (0, Value::Number(i64::from(id))), (1, Value::Null)]?);
+    Ok(change(Op::Insert, none(alloc), new))
+}
+
+// The writes that insert the rows of these IDs.
+fn inserts(alloc: Global, tables: &Tables, from: u32, to: u32) -> Result<Overlay, Fail>
+    requires sound { AreSound tables.now.tables }
+    ensures sound { IfOk result (λ over. AreSound (overlaid tables.now.tables over)) }
+    ensures of_tables { IfOk result (λ over. IsTrue (are_of (definitions_of tables.now.tables) over)) }
+{
+    let dict = tables.dict();
+    let mut over = Overlay::new(alloc);
+    no_writes_change_nothing();
+    for id in from..to {
+        let change = bare(alloc, id)?;
+        if dict.check_change(&change).is_err() {
+            return Err(Fail::from("a step was refused"));
+        }
+        if effect(tables, dict, &mut over, &change).is_err() {
+            return Err(Fail::from("a step was not done"));
+        }
+    }
+    Ok(over)
+}
+
+// The tables with these rows, or why they were refused.
+fn grown(
+    alloc: Global,
+    tables: Tables,
+    from: u32,
+    to: u32,
+) -> Result<Result<Tables, StoreFault>, Fail>
+    requires sound { AreSound tables.tables }
+    ensures sound { IfOk result (λ after. IfOk after (λ tables. AreSound tables.tables)) }
+{
+    let writes = inserts(alloc, &tables, from, to)?.into_writes()?;
+    Ok(tables.written(&writes))
+}
+
+const BATCH: u32 = 65_536;
+
+#[test]
+fn one_row_more_than_2_to_the_20_is_refused(rt: HostRuntime) -> Result<(), Fail> {
+    let alloc = rt.alloc();
+    let mut tables = empty(alloc)?;
+    for batch in 0..16 {
+        match grown(alloc, tables, batch * BATCH, batch * BATCH + BATCH)? {
+            Ok(after) => tables = after,
+            Err(_) => return Err(Fail::from("refused too early")),
+        }
+    }
+    assert_eq!(rt; tables.count(), 1_048_576);
+    let told = match grown(alloc, tables, 16 * BATCH, 16 * BATCH + 1)? {
+        Ok(_) => None,
+        Err(fault) => Some(fault),
+    };
+    assert_eq!(rt; told, Some(StoreFault::RowLimit));
     Ok(())
 }
