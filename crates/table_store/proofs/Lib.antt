@@ -1,6 +1,7 @@
 pub mod Counting
 pub mod Finding
 pub mod Leading
+pub mod Limits
 pub mod Overlaying
 pub mod Owning
 pub mod Rising

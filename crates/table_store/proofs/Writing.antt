@@ -31,7 +31,7 @@ right_true : (a b : Bool) → (a && b) ≡ true → b ≡ true
 right_true true b e = e
 right_true false b e = absurd (cc)
 
-neither : (a b : Bool) → (a || b) ≡ false → (a ≡ false) × (b ≡ false)
+pub neither : (a b : Bool) → (a || b) ≡ false → (a ≡ false) × (b ≡ false)
 neither true b e = absurd (cc)
 neither false b e = (refl, e)
 
@@ -88,10 +88,10 @@ not_among id w (v ∷ vs) of below rise =
       | false ↦ λ b. more
     ] refl
 
-rise_on : (w : Write) (ws : List Write) → writes_rise (w ∷ ws) ≡ true → writes_rise ws ≡ true
+pub rise_on : (w : Write) (ws : List Write) → writes_rise (w ∷ ws) ≡ true → writes_rise ws ≡ true
 rise_on w ws rise = right_true (is_below_first (written_key w) (map written_key ws)) (keys_rise (map written_key ws)) rise
 
-not_again : (id : ℕ) (w : Write) (ws : List Write) → (w.table == id) ≡ true → writes_rise (w ∷ ws) ≡ true →
+pub not_again : (id : ℕ) (w : Write) (ws : List Write) → (w.table == id) ≡ true → writes_rise (w ∷ ws) ≡ true →
     list_any (eq_by_cmp row_cmp w.key) (keys_in id ws) ≡ false
 not_again id w ws of rise =
     not_among id w ws of (left_true (is_below_first (written_key w) (map written_key ws)) (keys_rise (map written_key ws)) rise)

@@ -1,3 +1,4 @@
+pub mod Counts
 pub mod Leads
 pub mod Owners
 pub mod Stored

@@ -1,11 +1,12 @@
 //! The rows of one table, the indexes of its unique keys, and how many rows there are.
-ghost use Rattle.std.specs.Prelude.{◌≡◌, ◌==◌, ◌+◌, ◌<◌, IfOk, OnOk, IsTrue, [], length, is_some, true, false, ℕ, List, Some, None, slice_get};
+ghost use Rattle.std.specs.Prelude.{◌≡◌, ◌==◌, ◌+◌, ◌<◌, ◌≤◌, IfOk, OnOk, IsTrue, [], length, is_some, true, false, ℕ, List, Some, None, slice_get};
 ghost use Rattle.std.specs.List.{list_any};
 ghost use Rattle.std.specs.Option.{option_copied};
 ghost use Rattle.std.specs.FinMap.Entries as entries;
 ghost use Rattle.rl_value.specs.Order.{row_cmp};
 ghost use Rattle.redo_spec.specs.ConflictKeys.{is_null};
 ghost use Rattle.redo_spec.specs.Dictionary.{uniques_of};
+ghost use Rattle.redo_spec.specs.Fold.{live_row_limit};
 ghost use Rattle.redo_spec.specs.Tables.{owner_in};
 ghost use Rattle.redo_spec.specs.Work.{write_row};
 ghost use Rattle.row_apply.specs.Found.{key_columns};
@@ -13,6 +14,7 @@ ghost use Rattle.row_apply.specs.Overlaid.{rows_after, writes_rise};
 ghost use Rattle.row_apply.specs.Soundness.{AreSoundRows};
 ghost use Rattle.table_store.specs.Leads.{AreLedBut, leads_after, count_of};
 
+use crate::counts::{count_added, count_removed};
 use crate::owner::owner_by;
 use crate::unique_lead::follow_all;
 use redo_vec::TableRow;
@@ -73,6 +75,19 @@ impl KeptRows {
         let columns = &unique_keys(table)[number - 1];
         let index = &self.uniques.as_slice()[number - 1];
         owner_by(&self.rows, index, columns, values)
+    }
+
+    /// How many rows there are behind those of the writes that are of this table.
+    pub(crate) fn count_after(&self, id: u32, writes: &[Write]) -> u64
+        requires counted { self.now.count ≡ length self.now.rows }
+        requires rising { IsTrue (entries.is_sorted row_cmp self.now.rows) }
+        requires few { length self.now.rows ≤ live_row_limit }
+        requires writes_rise { IsTrue (writes_rise writes.now) }
+        ensures exact { result ≡ length (rows_after id writes.now self.now.rows) }
+    {
+        let added = count_added(&self.rows, id, writes);
+        let removed = count_removed(&self.rows, id, writes);
+        self.count + added - removed
     }
 
     // After one write of a row of this table.

@@ -1,6 +1,7 @@
 //! Tables that a snapshot costs nothing of: each table and each of its unique keys is a tree of shared blocks.
 #![tactic(auto)]
 
+mod counts;
 mod fault;
 mod kept_rows;
 mod owner;

@@ -1,9 +1,10 @@
 //! A list of tables, each of which the lists before and behind it may have too.
-ghost use Rattle.std.specs.Prelude.{◌≡◌, ◌≤◌, IfOk, IsTrue, length, nat_lt, true, false, Some};
+ghost use Rattle.std.specs.Prelude.{◌≡◌, ◌+◌, ◌*◌, ◌≤◌, IfOk, IsTrue, length, nat_lt, nat_le, true, false, Some};
 ghost use Rattle.std.specs.Arc.{arc_value};
 ghost use Rattle.std.specs.List.Sorted.{IsPartitionPoint};
 ghost use Rattle.std.specs.Option.{option_copied};
 ghost use Rattle.redo_spec.specs.Dictionary.{ids_rise};
+ghost use Rattle.redo_spec.specs.Fold.{live_row_limit};
 ghost use Rattle.redo_spec.specs.Tables.{definitions_of, empty_tables, row_count};
 ghost use Rattle.row_apply.specs.Overlaid.{overlaid, table_after, writes_rise};
 ghost use Rattle.row_apply.specs.Soundness.{AreSound, AreSoundRows};
@@ -15,6 +16,9 @@ use rl_value::NoMemory;
 use row_apply::Write;
 use std::alloc::Global;
 use std::sync::Arc;
+
+/// The most rows that may be live.
+const MAX_LIVE_ROWS: u64 = 1_048_576;
 
 /// A table that several lists may share.
 #[derive(Drop)]
@@ -141,6 +145,54 @@ pub(crate) fn count_rows(tables: &[SharedTable]) -> Result<u64, NoMemory>
         rest = others;
     }
     Ok(count)
+}
+
+// One row more in each table for each write would not be too many.
+fn has_room(count: u64, tables: usize, writes: usize) -> bool
+    ensures room { IsTrue result → count + tables * writes ≤ live_row_limit }
+{
+    let Some(most) = (tables as u64).checked_mul(writes as u64) else {
+        return false;
+    };
+    match count.checked_add(most) {
+        None => false,
+        Some(sum) => sum <= MAX_LIVE_ROWS,
+    }
+}
+
+// Whether no more rows than may be live are there behind the writes, by a look at the rows that they write.
+#[tactic(auto, using(crate::proofs::Counting::rows_counted))]
+fn count_fits(tables: &[SharedTable], writes: &[Write]) -> bool
+    requires writes_rise { IsTrue (writes_rise writes.now) }
+    requires sound { AreSound (tables_in tables.now) }
+    requires few { row_count (tables_in tables.now) ≤ live_row_limit }
+    ensures exact { result ≡ nat_le (row_count (overlaid (tables_in tables.now) writes.now)) live_row_limit }
+{
+    let mut count: u64 = 0;
+    let mut rest = tables;
+    while let [shared, others @ ..] = rest {
+        let after = shared.table.count_after(writes);
+        if after > MAX_LIVE_ROWS - count {
+            return false;
+        }
+        count += after;
+        rest = others;
+    }
+    true
+}
+
+/// Whether no more rows than may be live are there behind the writes, of so many before.
+pub(crate) fn fits(count: u64, tables: &[SharedTable], writes: &[Write]) -> bool
+    requires writes_rise { IsTrue (writes_rise writes.now) }
+    requires sound { AreSound (tables_in tables.now) }
+    requires counted { count ≡ row_count (tables_in tables.now) }
+    requires few { count ≤ live_row_limit }
+    ensures exact { result ≡ nat_le (row_count (overlaid (tables_in tables.now) writes.now)) live_row_limit }
+{
+    if has_room(count, tables.len(), writes.len()) {
+        return true;
+    }
+    count_fits(tables, writes)
 }
 
 fn is_written(writes: &[Write], id: u32) -> bool

@@ -1,10 +1,11 @@
 //! One table: its definition, its rows, and the indexes of its unique keys, which callers do not see.
-ghost use Rattle.std.specs.Prelude.{◌≡◌, ◌<◌, [], IfOk, IsTrue, length, false, map};
+ghost use Rattle.std.specs.Prelude.{◌≡◌, ◌<◌, ◌≤◌, [], IfOk, IsTrue, length, false, map};
 ghost use Rattle.std.specs.List.{list_any};
 ghost use Rattle.std.specs.Option.{option_copied};
-ghost use Rattle.std.specs.FinMap.Entries.{find};
+ghost use Rattle.std.specs.FinMap.Entries.{find, is_sorted};
 ghost use Rattle.rl_value.specs.Order.{row_cmp};
 ghost use Rattle.redo_spec.specs.ConflictKeys.{is_null};
+ghost use Rattle.redo_spec.specs.Fold.{live_row_limit};
 ghost use Rattle.redo_spec.specs.Tables.{owner_in};
 ghost use Rattle.row_apply.specs.Found.{key_columns};
 ghost use Rattle.row_apply.specs.Overlaid.{table_after, writes_rise};
@@ -104,6 +105,16 @@ impl StoredTable {
         ensures exact { result ≡ length self.now.rows }
     {
         self.kept.count
+    }
+
+    /// How many rows it has behind those of the writes that are of it.
+    pub(crate) fn count_after(&self, writes: &[Write]) -> u64
+        requires writes_rise { IsTrue (writes_rise writes.now) }
+        requires rising { IsTrue (is_sorted row_cmp self.now.rows) }
+        requires few { length self.now.rows ≤ live_row_limit }
+        ensures exact { result ≡ length (table_after writes.now self.now).rows }
+    {
+        self.kept.count_after(self.definition.id, writes)
     }
 
     /// The row with this primary key.

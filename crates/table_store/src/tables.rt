@@ -2,7 +2,7 @@
 //!
 //! A write makes new tables, which share every block that it does not touch with those before it. The list of tables stands
 //! behind one count, so a snapshot costs two counts however many tables there are.
-ghost use Rattle.std.specs.Prelude.{◌≡◌, ◌≤◌, ◌<◌, IfOk, OnOk, IfErr, IsTrue, Err, map, length, [], false, IsSome, IfSome};
+ghost use Rattle.std.specs.Prelude.{◌≡◌, ◌↔◌, ◌≤◌, ◌<◌, nat_le, IfOk, IfErr, IsTrue, Err, map, length, [], false, IsSome, IfSome};
 ghost use Rattle.std.specs.Arc.{arc_value};
 ghost use Rattle.std.specs.List.{list_any};
 ghost use Rattle.std.specs.Option.{option_copied};
@@ -19,7 +19,9 @@ ghost use Rattle.table_store.specs.declared.fault.StoreFault.TheVariants.{RowLim
 
 use crate::fault::StoreFault;
 use crate::row_list::RowList;
-use crate::shared_table::{SharedTable, count_rows, shared, table_at, without_rows, write_tables};
+use crate::shared_table::{
+    SharedTable, count_rows, fits, shared, table_at, without_rows, write_tables,
+};
 use crate::stored_table::StoredTable;
 use redo_dict::Dict;
 use rl_value::{Key, NoMemory, Row};
@@ -27,9 +29,6 @@ use row_apply::{Rows, Write, Writes};
 use std::alloc::Global;
 use std::marker::Model;
 use std::sync::Arc;
-
-/// The most rows that may be live.
-const MAX_LIVE_ROWS: u64 = 1_048_576;
 
 /// The tables of a dictionary with their rows, of which a snapshot costs nothing. It is seen as that dictionary and its tables.
 #[derive(Drop)]
@@ -41,8 +40,9 @@ pub struct Tables {
 }
 
 impl Model for Tables {
-    ghost use Rattle.std.specs.Prelude.{◌≡◌};
+    ghost use Rattle.std.specs.Prelude.{◌≡◌, ◌≤◌};
     ghost use Rattle.std.specs.Arc.{arc_value};
+    ghost use Rattle.redo_spec.specs.Fold.{live_row_limit};
     ghost use Rattle.redo_spec.specs.Tables.{definitions_of, row_count};
     ghost use Rattle.table_store.specs.Stored.{TableSet};
     ghost use Rattle.table_store.specs.Shared.{tables_in};
@@ -52,7 +52,7 @@ impl Model for Tables {
     ghost view = { λ t. record { dictionary = arc_value t.dict; tables = tables_in (arc_value t.tables).items } };
 
     ghost invariant = { λ t. (definitions_of (tables_in (arc_value t.tables).items) ≡ (arc_value t.dict).tables) ×
-        (t.count ≡ row_count (tables_in (arc_value t.tables).items)) };
+        (t.count ≡ row_count (tables_in (arc_value t.tables).items)) × (t.count ≤ live_row_limit) };
 }
 
 impl Tables {
@@ -90,6 +90,7 @@ impl Tables {
     /// How many rows the tables have together.
     pub fn count(&self) -> u64
         ensures exact { result ≡ row_count self.now.tables }
+        ensures few { result ≤ live_row_limit }
     {
         self.count
     }
@@ -131,6 +132,15 @@ impl Tables {
         }
     }
 
+    /// Whether no more than 2^20 rows would be live behind the writes. It takes no memory. Rows are looked at only where there
+    /// is not room for one more in each table for each write.
+    pub fn fits(&self, writes: &Writes) -> bool
+        requires sound { AreSound self.now.tables }
+        ensures exact { result ≡ nat_le (row_count (overlaid self.now.tables writes.now)) live_row_limit }
+    {
+        fits(self.count, self.tables.as_slice(), writes.items())
+    }
+
     /// The tables with the written rows in place of theirs. These tables stay as they are.
     pub fn with(&self, writes: &Writes) -> Result<Tables, StoreFault>
         requires sound { AreSound self.now.tables }
@@ -138,9 +148,11 @@ impl Tables {
         requires of_tables { IsTrue (are_of (definitions_of self.now.tables) writes.now) }
         ensures written { IfOk result (λ after. after.tables ≡ overlaid self.now.tables writes.now) }
         ensures dictionary { IfOk result (λ after. after.dictionary ≡ self.now.dictionary) }
-        ensures few { OnOk result (row_count (overlaid self.now.tables writes.now) ≤ live_row_limit) }
-        ensures many { result ≡ Err RowLimit → live_row_limit < row_count (overlaid self.now.tables writes.now) }
+        ensures row_limit { (result ≡ Err RowLimit) ↔ (live_row_limit < row_count (overlaid self.now.tables writes.now)) }
     {
+        if !self.fits(writes) {
+            return Err(StoreFault::RowLimit);
+        }
         match self.snapshot() {
             Ok(tables) => tables.written(writes),
             Err(NoMemory) => Err(StoreFault::Memory),
@@ -148,15 +160,31 @@ impl Tables {
     }
 
     /// The tables with the written rows in place of theirs. Blocks that nobody else has are changed where they are; after a
-    /// refusal nothing is left of the tables.
+    /// refusal nothing is left of the tables, so who needs them then asks `fits` before.
     pub fn written(self, writes: &Writes) -> Result<Tables, StoreFault>
         requires sound { AreSound self.tables }
         requires sound_then { AreSound (overlaid self.tables writes.now) }
         requires of_tables { IsTrue (are_of (definitions_of self.tables) writes.now) }
         ensures written { IfOk result (λ after. after.tables ≡ overlaid self.tables writes.now) }
         ensures dictionary { IfOk result (λ after. after.dictionary ≡ self.dictionary) }
-        ensures few { OnOk result (row_count (overlaid self.tables writes.now) ≤ live_row_limit) }
-        ensures many { result ≡ Err RowLimit → live_row_limit < row_count (overlaid self.tables writes.now) }
+        ensures row_limit { (result ≡ Err RowLimit) ↔ (live_row_limit < row_count (overlaid self.tables writes.now)) }
+    {
+        if !self.fits(writes) {
+            return Err(StoreFault::RowLimit);
+        }
+        match self.put_in(writes) {
+            Ok(tables) => Ok(tables),
+            Err(NoMemory) => Err(StoreFault::Memory),
+        }
+    }
+
+    // The tables with the written rows in place of theirs, of which there are not too many.
+    fn put_in(self, writes: &Writes) -> Result<Tables, NoMemory>
+        requires sound { AreSound self.tables }
+        requires sound_then { AreSound (overlaid self.tables writes.now) }
+        requires few { row_count (overlaid self.tables writes.now) ≤ live_row_limit }
+        ensures written { IfOk result (λ after. after.tables ≡ overlaid self.tables writes.now) }
+        ensures dictionary { IfOk result (λ after. after.dictionary ≡ self.dictionary) }
     {
         let Tables {
             alloc,
@@ -164,13 +192,7 @@ impl Tables {
             tables,
             count: _,
         } = self;
-        let (tables, count) = match tables_after(alloc, tables, writes.items()) {
-            Ok(after) => after,
-            Err(NoMemory) => return Err(StoreFault::Memory),
-        };
-        if count > MAX_LIVE_ROWS {
-            return Err(StoreFault::RowLimit);
-        }
+        let (tables, count) = tables_after(alloc, tables, writes.items())?;
         Ok(Tables {
             alloc,
             dict,

@@ -240,7 +240,7 @@ fn inserts(alloc: Global, tables: &Tables, from: u32, to: u32) -> Result<Overlay
     Ok(over)
 }
 
-// The tables with these rows, or why they were refused.
+// The tables with these rows, or why they were refused; whether they fit was told before.
 fn grown(
     alloc: Global,
     tables: Tables,
@@ -251,7 +251,12 @@ fn grown(
     ensures sound { IfOk result (λ after. IfOk after (λ tables. AreSound tables.tables)) }
 {
     let writes = inserts(alloc, &tables, from, to)?.into_writes()?;
-    Ok(tables.written(&writes))
+    let fits = tables.fits(&writes);
+    let after = tables.written(&writes);
+    if fits != after.is_ok() {
+        return Err(Fail::from("what fits is not what is taken"));
+    }
+    Ok(after)
 }
 
 const BATCH: u32 = 65_536;

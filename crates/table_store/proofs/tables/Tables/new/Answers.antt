@@ -1,4 +1,4 @@
-use Rattle.std.proofs.Common.{sym, ap, ◌∙◌, Vec, Global}
+use Rattle.std.proofs.Common.{arith, sym, ap, ◌∙◌, Vec, Global}
 use Rattle.redo_spec.specs.Dictionary.{Dictionary}
 use Rattle.redo_spec.specs.Tables.{definitions_of, row_count}
 use Rattle.table_store.specs.Shared.{tables_in}
@@ -12,4 +12,5 @@ invariant_of-result c =
       ap definitions_of same ∙ empty_definitions c.tables.result.now ∙ c.tables.ensures.same ∙
           ap (λ (d : Dictionary). d.tables) (sym c.in-Ok-new-2.ensures.ok),
       empty_count c.tables.result.now ∙ ap row_count (sym same),
+      omega arith,
     )
