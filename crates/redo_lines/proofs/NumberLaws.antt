@@ -2,9 +2,10 @@
 use Rattle.std.proofs.Common.{◌≡◌, ℕ, ◌<◌, ◌^◌, true, false, List, [], ◌∷◌, refl}
 use Rattle.std.specs.Fmt.{decimal}
 use Rattle.std.specs.List.{list_all}
+use Rattle.rl_base.specs.Lines.{is_line}
 use Rattle.rl_value.specs.Text.{is_letter}
-use Rattle.redo_lines.specs.Words.{split, joined, in_line, space}
-use Rattle.redo_lines.proofs.Splitting.{closes, closes-kind, split-joined, in_line-joined}
+use Rattle.redo_lines.specs.Words.{split, joined, space}
+use Rattle.redo_lines.proofs.Splitting.{closes, closes-kind, split-joined, is_line-joined}
 use Rattle.redo_lines.proofs.FieldLaws.{closes-decimal}
 
 closes-letters : (keyword : List ℕ) → list_all is_letter keyword ≡ true → closes 32 false keyword ≡ true
@@ -16,6 +17,6 @@ number_words keyword n all h =
     split-joined 32 keyword (decimal n ∷ []) (closes-letters keyword all) (closes-decimal 32 n refl h, tt)
 
 pub number_alone : (keyword : List ℕ) (n : ℕ) → list_all is_letter keyword ≡ true → n < 2 ^ 64 →
-    in_line (joined space (keyword ∷ decimal n ∷ [])) ≡ true
+    is_line (joined space (keyword ∷ decimal n ∷ [])) ≡ true
 number_alone keyword n all h =
-    in_line-joined (keyword ∷ decimal n ∷ []) (closes-letters keyword all, (closes-decimal 32 n refl h, tt))
+    is_line-joined (keyword ∷ decimal n ∷ []) (closes-letters keyword all, (closes-decimal 32 n refl h, tt))

@@ -5,8 +5,9 @@ use Rattle.std.specs.Prelude.{not, ◌&&◌, ◌==◌}
 use Rattle.std.specs.List.{list_all, AllByRecursion}
 use Rattle.std.proofs.lemmas.Bool.{and_parts, eqb-true, eq-eqb}
 use Rattle.std.proofs.lemmas.List.{append-nil}
+use Rattle.rl_base.specs.Lines.{is_line}
 use Rattle.rl_value.specs.Literal.{quote}
-use Rattle.redo_lines.specs.Words.{inside_after, separates, split_from, split, joined_behind, joined, in_line}
+use Rattle.redo_lines.specs.Words.{inside_after, separates, split_from, split, joined_behind, joined}
 
 -- a byte that ends neither the part nor the line
 abbrev pub stays : ℕ → Bool → ℕ → Bool
@@ -116,25 +117,25 @@ closes-kind p between (b ∷ bytes) q n e all =
 
 -- ---- what ends no line
 
-pub closed-in_line : (between : ℕ) (inside : Bool) (bytes : List ℕ) → closes between inside bytes ≡ true → in_line bytes ≡ true
-closed-in_line between inside [] e = refl
-closed-in_line between inside (b ∷ bytes) e =
+pub closed-is_line : (between : ℕ) (inside : Bool) (bytes : List ℕ) → closes between inside bytes ≡ true → is_line bytes ≡ true
+closed-is_line between inside [] e = refl
+closed-is_line between inside (b ∷ bytes) e =
     let p = and_parts _ _ e in
-    both_true _ _ (and_parts _ _ p.0).1 (closed-in_line between (inside_after inside b) bytes p.1)
+    both_true _ _ (and_parts _ _ p.0).1 (closed-is_line between (inside_after inside b) bytes p.1)
 
-in_line-append : (front bytes : List ℕ) → in_line front ≡ true → in_line bytes ≡ true → in_line (front ++ bytes) ≡ true
-in_line-append [] bytes e f = f
-in_line-append (b ∷ front) bytes e f =
-    let p = and_parts _ _ e in both_true _ _ p.0 (in_line-append front bytes p.1 f)
+is_line-append : (front bytes : List ℕ) → is_line front ≡ true → is_line bytes ≡ true → is_line (front ++ bytes) ≡ true
+is_line-append [] bytes e f = f
+is_line-append (b ∷ front) bytes e f =
+    let p = and_parts _ _ e in both_true _ _ p.0 (is_line-append front bytes p.1 f)
 
-in_line-behind : (parts : List (List ℕ)) → AllByRecursion (λ p. closes 32 false p ≡ true) parts →
-    in_line (joined_behind 32 parts) ≡ true
-in_line-behind [] each = refl
-in_line-behind (part ∷ parts) each =
-    in_line-append (32 ∷ part) (joined_behind 32 parts) (closed-in_line 32 false part each.0) (in_line-behind parts each.1)
+is_line-behind : (parts : List (List ℕ)) → AllByRecursion (λ p. closes 32 false p ≡ true) parts →
+    is_line (joined_behind 32 parts) ≡ true
+is_line-behind [] each = refl
+is_line-behind (part ∷ parts) each =
+    is_line-append (32 ∷ part) (joined_behind 32 parts) (closed-is_line 32 false part each.0) (is_line-behind parts each.1)
 
 -- words that stand whole make a line
-pub in_line-joined : (words : List (List ℕ)) → AllByRecursion (λ p. closes 32 false p ≡ true) words →
-    in_line (joined 32 words) ≡ true
-in_line-joined [] each = refl
-in_line-joined (w ∷ ws) each = in_line-append w (joined_behind 32 ws) (closed-in_line 32 false w each.0) (in_line-behind ws each.1)
+pub is_line-joined : (words : List (List ℕ)) → AllByRecursion (λ p. closes 32 false p ≡ true) words →
+    is_line (joined 32 words) ≡ true
+is_line-joined [] each = refl
+is_line-joined (w ∷ ws) each = is_line-append w (joined_behind 32 ws) (closed-is_line 32 false w each.0) (is_line-behind ws each.1)

@@ -2,6 +2,7 @@
 use Rattle.std.proofs.Common.{◌≡◌, ◌≤◌, true, false, List, [], ◌∷◌, ◌++◌, length, Ok, refl, ap, ◌∙◌, subst, arith}
 use Rattle.std.specs.Prelude.{codes}
 use Rattle.std.specs.List.{AllByRecursion}
+use Rattle.rl_base.specs.Lines.{is_line}
 use Rattle.rl_value.specs.declared.xid.Xid.{Xid}
 use Rattle.rl_value.specs.Literal.{xid_text}
 use Rattle.redo_vec.specs.declared.change.Change.{Change}
@@ -14,8 +15,8 @@ use Rattle.redo_vec.specs.Ranges.{IsXid, IsChange, IsVector}
 use Rattle.redo_lines.specs.Known.{columns_known, table_word}
 use Rattle.redo_lines.specs.Printing.{cells_words, op_word, vector_words, line_of_vector}
 use Rattle.redo_lines.specs.Reading.{Line, change_said, xid_alone, vector_of_words, vector_said, vector_of_line}
-use Rattle.redo_lines.specs.Words.{split, in_line, space}
-use Rattle.redo_lines.proofs.Splitting.{closes, in_line-joined}
+use Rattle.redo_lines.specs.Words.{split, space}
+use Rattle.redo_lines.proofs.Splitting.{closes, is_line-joined}
 use Rattle.redo_lines.proofs.FieldLaws.{xid_printed, closes-xid}
 use Rattle.redo_lines.proofs.ListLaws.{split-all}
 use Rattle.redo_lines.proofs.ChangeLaws.{change_read, change_closes}
@@ -81,5 +82,5 @@ pub line_read : (tables : List TableRow) (v : Vector) → IsVector v → vector_
 line_read tables v ok = ap (vector_said tables) (words_split tables v ok) ∙ words_read tables v ok
 
 -- and no byte ends it
-pub line_alone : (tables : List TableRow) (v : Vector) → IsVector v → in_line (line_of_vector tables v) ≡ true
-line_alone tables v ok = in_line-joined (vector_words tables v) (words_close tables v ok)
+pub line_alone : (tables : List TableRow) (v : Vector) → IsVector v → is_line (line_of_vector tables v) ≡ true
+line_alone tables v ok = is_line-joined (vector_words tables v) (words_close tables v ok)

@@ -2,7 +2,7 @@
 -- A quote opens a quoted part, which goes up to the next quote; a byte in it separates nothing. A quote that stands twice in a
 -- literal closes the part and opens it again, so it needs no rule of its own.
 use Rattle.std.specs.Prelude.{ℕ, List, [], ◌∷◌, ◌++◌, Bool, false, not, ◌&&◌, ◌==◌, if◌then◌else◌}
-use Rattle.std.specs.List.{flat_map, list_all}
+use Rattle.std.specs.List.{flat_map}
 use Rattle.rl_value.specs.Literal.{quote}
 
 -- a quote opens a quoted part or closes it
@@ -32,10 +32,6 @@ joined_behind between parts = flat_map (λ part. between ∷ part) parts
 abbrev pub joined : ℕ → List (List ℕ) → List ℕ
 joined between [] = []
 joined between (part ∷ parts) = part ++ joined_behind between parts
-
--- no byte ends a line
-abbrev pub in_line : List ℕ → Bool
-in_line bytes = list_all (λ b. not (b == 10)) bytes
 
 -- the bytes between words, between the parts of names and transaction ids, of keys, of columns, and of cells
 abbrev pub space : ℕ

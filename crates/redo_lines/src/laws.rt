@@ -4,6 +4,7 @@
 ghost use Rattle.std.specs.Prelude.{◌≡◌, ◌≤◌, ◌<◌, ◌^◌, ◌∷◌, [], Ok, List, ℕ, true};
 ghost use Rattle.std.specs.Fmt.{decimal};
 ghost use Rattle.std.specs.List.{list_all};
+ghost use Rattle.rl_base.specs.Lines.{is_line};
 ghost use Rattle.rl_value.specs.Text.{is_letter};
 ghost use Rattle.redo_vec.specs.Ranges.{AreBytes, IsVector};
 ghost use Rattle.redo_vec.specs.declared.table.TableRow.{TableRow};
@@ -12,17 +13,17 @@ ghost use Rattle.redo_lines.specs.Fields.{number_said};
 ghost use Rattle.redo_lines.specs.Known.{HaveIds, known_after};
 ghost use Rattle.redo_lines.specs.Printing.{vector_words, line_of_vector};
 ghost use Rattle.redo_lines.specs.Reading.{vector_of_line};
-ghost use Rattle.redo_lines.specs.Words.{split, joined, in_line, space};
+ghost use Rattle.redo_lines.specs.Words.{split, joined, space};
 
 /// A vector is read from the line that is printed for it, whatever tables are known.
 pub fn a_printed_vector_is_read()
     ensures read { (tables : List TableRow) (vector : Vector) → IsVector vector →
         vector_of_line tables (line_of_vector tables vector) ≡ Ok vector }
-    // The line is cut into the words that it was put together from, and no byte ends it.
+    // The line is cut into the words that it was put together from, and it is one line.
     ensures words { (tables : List TableRow) (vector : Vector) → IsVector vector →
         split space (line_of_vector tables vector) ≡ vector_words tables vector }
     ensures one_line { (tables : List TableRow) (vector : Vector) → IsVector vector →
-        in_line (line_of_vector tables vector) ≡ true }
+        is_line (line_of_vector tables vector) ≡ true }
 {}
 
 /// A number is read from its decimal, also behind a keyword on a line of their own.
@@ -31,7 +32,7 @@ pub fn a_printed_number_is_read()
     ensures words { (keyword : List ℕ) (number : ℕ) → list_all is_letter keyword ≡ true → number < 2 ^ 64 →
         split space (joined space (keyword ∷ decimal number ∷ [])) ≡ keyword ∷ decimal number ∷ [] }
     ensures one_line { (keyword : List ℕ) (number : ℕ) → list_all is_letter keyword ≡ true → number < 2 ^ 64 →
-        in_line (joined space (keyword ∷ decimal number ∷ [])) ≡ true }
+        is_line (joined space (keyword ∷ decimal number ∷ [])) ≡ true }
 {}
 
 /// What a line says has a spelling, where the tables that are known have ids of 32 bits, and those known behind it have them too.

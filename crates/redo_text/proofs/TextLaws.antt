@@ -6,6 +6,7 @@ use Rattle.std.proofs.lemmas.Bool.{and_parts, ne_eqb, le-ltb}
 use Rattle.std.proofs.lemmas.Bool.Decides.{nat_tests}
 use Rattle.std.proofs.lemmas.Grind.{flat_map-append}
 use Rattle.std.proofs.lemmas.List.{append-nil, length-append}
+use Rattle.rl_base.specs.Lines.{is_line}
 use Rattle.rl_value.specs.Outcome.{◌>>=◌, map_ok}
 use Rattle.redo_vec.specs.declared.change.Op.{Op}
 use Rattle.redo_vec.specs.declared.change.Op.TheVariants.{Insert, Update, Delete}
@@ -27,7 +28,7 @@ use Rattle.redo_lines.specs.Printing.{op_word, vector_words, line_of_vector}
 use Rattle.redo_lines.specs.Reading.{Line, vector_said}
 use Rattle.redo_text.specs.Showing.{with_end, number_line, heading_text, vectors_text, known_behind, record_text, records_text, text_of_log}
 use Rattle.redo_text.specs.Text.{Bad, at_line, text_from, log_of, log_said}
-use Rattle.redo_lines.specs.Words.{split, in_line, space}
+use Rattle.redo_lines.specs.Words.{split, space}
 use Rattle.redo_text.proofs.LineLaws.{VectorsRead, NumbersRead}
 
 abbrev Records : Type 0
@@ -39,7 +40,7 @@ not_true : (a : Bool) → not a ≡ true → a ≡ false
 not_true true e = cc
 not_true false e = refl
 
-line_on : (d : Draft Records) (n : ℕ) (begun line rest : List ℕ) → in_line line ≡ true →
+line_on : (d : Draft Records) (n : ℕ) (begun line rest : List ℕ) → is_line line ≡ true →
     text_from add_record d n begun (line ++ 10 ∷ rest)
     ≡ (at_line n (line_taken add_record d (begun ++ line)) >>= λ e. text_from add_record e (n + 1) [] rest)
 line_on d n begun [] rest e =
@@ -63,7 +64,7 @@ reads_then d e f a b p q n rest =
     let y = q x.0 rest in
     (y.0, ap (text_from add_record d n []) (append_assoc a b rest) ∙ x.1 ∙ y.1)
 
-line_reads : (d e : Draft Records) (line : List ℕ) → in_line line ≡ true → line_taken add_record d line ≡ Ok e →
+line_reads : (d e : Draft Records) (line : List ℕ) → is_line line ≡ true → line_taken add_record d line ≡ Ok e →
     Reads d (with_end line) e
 line_reads d e line inside taken n rest = (
   n + 1,
