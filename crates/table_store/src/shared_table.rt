@@ -131,20 +131,17 @@ pub(crate) fn table_at(tables: &[SharedTable], id: u32) -> Option<&StoredTable>
 
 /// How many rows the tables have together.
 #[tactic(auto, using(crate::proofs::Counting::rows_counted))]
-pub(crate) fn count_rows(tables: &[SharedTable]) -> Result<u64, NoMemory>
-    ensures exact { IfOk result (λ count. count ≡ row_count (tables_in tables.now)) }
+pub(crate) fn count_rows(tables: &[SharedTable]) -> u64
+    requires few { row_count (tables_in tables.now) ≤ live_row_limit }
+    ensures exact { result ≡ row_count (tables_in tables.now) }
 {
     let mut count: u64 = 0;
     let mut rest = tables;
     while let [shared, others @ ..] = rest {
-        match count.checked_add(shared.table.count()) {
-            // No store has 2^64 rows; the answer without a cause stands for it.
-            None => return Err(NoMemory),
-            Some(sum) => count = sum,
-        }
+        count += shared.table.count();
         rest = others;
     }
-    Ok(count)
+    count
 }
 
 // One row more in each table for each write would not be too many.

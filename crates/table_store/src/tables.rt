@@ -227,13 +227,14 @@ fn tables_after(
     requires writes_rise { IsTrue (writes_rise writes.now) }
     requires sound { AreSound (tables_in (arc_value tables).items) }
     requires sound_then { AreSound (overlaid (tables_in (arc_value tables).items) writes.now) }
+    requires few { row_count (overlaid (tables_in (arc_value tables).items) writes.now) ≤ live_row_limit }
     ensures written { IfOk result (λ after. tables_in (arc_value after.0).items ≡
         overlaid (tables_in (arc_value tables).items) writes.now) }
     ensures counted { IfOk result (λ after. after.1 ≡ row_count (tables_in (arc_value after.0).items)) }
 {
     let list = own(alloc, tables)?;
     let list = write_tables(alloc, list, writes)?;
-    let count = count_rows(list.as_slice())?;
+    let count = count_rows(list.as_slice());
     match Arc::new(alloc, list) {
         Ok(tables) => Ok((tables, count)),
         Err(_) => Err(NoMemory),
