@@ -1,0 +1,14 @@
+pub mod KeptState
+pub mod Layout
+pub mod Writable
+pub mod Writings
+pub mod Refusals
+pub mod StandbyRedo
+pub mod Checkpoint
+pub mod Loading
+pub mod HasLayout
+pub mod NextCommit
+pub mod Fits
+pub mod Lawful
+pub mod Publishing
+pub mod Worked

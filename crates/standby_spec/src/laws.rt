@@ -1,0 +1,143 @@
+//! Laws of the definitions, each stated by a public function with an empty body, or one that only calls laws of lower crates.
+ghost use Rattle.std.specs.Prelude.{◌≡◌, ◌≤◌, ◌+◌, ℕ, List, [], ◌∷◌, ◌++◌, Option, None, Bool, true, false, IsTrue};
+ghost use Rattle.rl_ports.specs.declared.batch.Item.{Item};
+ghost use Rattle.rl_ports.specs.Store.{Store, is_store, after_batch};
+ghost use Rattle.redo_spec.specs.Dictionary.{ids_rise};
+ghost use Rattle.redo_spec.specs.History.{Commits, commit_count};
+ghost use Rattle.redo_spec.specs.Skips.{Skip};
+ghost use Rattle.redo_spec.specs.Tables.{Tables, definitions_of};
+ghost use Rattle.redo_spec.specs.Fold.{Base, tables_at};
+ghost use Rattle.skip_guard.specs.declared.guard.Level.{Level};
+ghost use Rattle.row_apply.specs.declared.writes.Write.{Write};
+ghost use Rattle.row_apply.specs.Overlaid.{overlaid};
+ghost use Rattle.row_apply.specs.Soundness.{AreSound};
+ghost use Rattle.log_registry.specs.declared.entry.LogEntry.{LogEntry};
+ghost use Rattle.log_registry.specs.Registered.{AreToldBy, IsRising, entry_of};
+ghost use Rattle.redo_reader.specs.Ahead.{redo_ahead};
+ghost use Rattle.redo_reader.specs.Behind.{redo_left};
+ghost use Rattle.standby_spec.specs.declared.mark.Mark.{Mark};
+ghost use Rattle.standby_spec.specs.KeptState.{KeptState, base_of};
+ghost use Rattle.standby_spec.specs.Layout.{items_of, pairs_of};
+ghost use Rattle.standby_spec.specs.Writable.{can_be_written};
+ghost use Rattle.standby_spec.specs.Writings.{Writing, items_for, items_for_all, state_after, state_after_all, AddLog, Publish, KeepMark, SetLevel, writable};
+ghost use Rattle.standby_spec.specs.Refusals.{passes_limit};
+ghost use Rattle.standby_spec.specs.StandbyRedo.{Archived, standby_redo, commits_of};
+ghost use Rattle.standby_spec.specs.Checkpoint.{IsMarkOf};
+ghost use Rattle.standby_spec.specs.NextCommit.{IsNextCommit};
+ghost use Rattle.standby_spec.specs.Loading.{Image, loaded, as_loaded, kept_pairs};
+ghost use Rattle.standby_spec.specs.HasLayout.{HasLayout, IsStoreOfBytes, LeavesLayout, MayBeDone, MayAllBeDone};
+ghost use Rattle.standby_spec.specs.Fits.{Fits, FitsStill};
+ghost use Rattle.standby_spec.specs.Lawful.{Belongs, IsLawful};
+ghost use Rattle.standby_spec.specs.Publishing.{Publishing, Ending, Does, next_shown, is_of_run, PublisherFits};
+
+use redo_reader::laws::{
+    the_reader_gives_the_redo, the_reader_gives_the_rest, what_was_ahead_stays,
+};
+use redo_spec::laws::a_mark_fits_on;
+use rl_ports::Keeper;
+
+/// A skip rule that counts from the commit after n leaves the tables of each count up to n.
+pub fn a_later_rule_changes_nothing_before()
+    ensures tables { (b : Base) (skips : List Skip) (rule : Skip) (commits : Commits) (n : ℕ) → b.n ≤ n → n ≤ rule.from →
+        tables_at b (skips ++ rule ∷ []) commits n ≡ tables_at b skips commits n }
+{}
+
+/// A state that fits does so again after the next commit of the redo is published with its writes, where they may be put in
+/// place and pass no limit.
+pub fn a_published_commit_fits()
+    ensures fits { (b : Base) (logs : Archived) (begun : ℕ) (s : KeptState) (at_scn : ℕ) (writes : List Write) →
+        Fits b logs begun s → IsNextCommit b s.skips (commits_of logs s) s.n at_scn writes →
+        s.n + 1 ≤ commit_count (commits_of logs s) → writable s.tables writes ≡ writes →
+        passes_limit s.tables writes ≡ false → Fits b logs begun (state_after (Publish at_scn writes) s) }
+{}
+
+/// A state that fits does so with a mark that is right at its own count, which is no greater, and at each level of the guard.
+pub fn a_kept_mark_fits()
+    ensures mark { (b : Base) (logs : Archived) (begun : ℕ) (s : KeptState) (mark : Mark) → Fits b logs begun s →
+        IsMarkOf logs s mark.n mark → mark.n ≤ s.n → Fits b logs begun (state_after (KeepMark mark) s) }
+    ensures level { (b : Base) (logs : Archived) (begun : ℕ) (s : KeptState) (level : Level) → Fits b logs begun s →
+        Fits b logs begun (state_after (SetLevel level) s) }
+{}
+
+/// A state that fits in a run fits between runs.
+pub fn a_run_leaves_what_fits()
+    ensures still { (b : Base) (logs : Archived) (begun : ℕ) (s : KeptState) → Fits b logs begun s → FitsStill b logs s }
+{}
+
+/// A state that fits over any base fits over itself, with its own count and rows as the base of what follows.
+pub fn a_state_fits_over_itself()
+    ensures itself { (b : Base) (logs : Archived) (begun : ℕ) (s : KeptState) → Fits b logs begun s →
+        IsTrue (ids_rise 0 (definitions_of s.tables)) → FitsStill (base_of s) logs s }
+{}
+
+/// What is ahead of the place of a mark that is right is the rest of the redo behind its record q: a run that begins there reads
+/// it. That it then goes as far as the whole redo is `a_run_from_a_mark_goes_as_far` of `redo_spec`.
+pub fn a_run_from_a_mark_reads_the_rest()
+    ensures rest { (logs : Archived) (s : KeptState) (n : ℕ) (mark : Mark) → AreToldBy logs s.logs → IsRising s.logs →
+        IsMarkOf logs s n mark → redo_ahead logs s.logs mark.place ≡ redo_left mark.q (standby_redo logs s) }
+{
+    the_reader_gives_the_rest();
+}
+
+/// A mark that is right stays so where a further log is registered.
+pub fn a_mark_stays_right_in_a_longer_redo()
+    ensures mark { (logs : Archived) (s : KeptState) (n : ℕ) (mark : Mark) (entry : LogEntry) → AreToldBy logs s.logs →
+        IsRising s.logs → entry_of entry.head.seq s.logs ≡ None → IsMarkOf logs s n mark →
+        IsMarkOf logs (state_after (AddLog entry) s) n mark }
+{
+    the_reader_gives_the_redo();
+    what_was_ahead_stays();
+    a_mark_fits_on();
+}
+
+/// Writes that may be put in place leave sound tables, where their ids rise.
+pub fn written_rows_are_sound()
+    ensures sound { (tables : Tables) (writes : List Write) → IsTrue (ids_rise 0 (definitions_of tables)) → AreSound tables →
+        can_be_written tables writes ≡ true → AreSound (overlaid tables writes) }
+{}
+
+/// A call of a run that makes a state which fits and has a layout leaves a publisher that fits over the same base, whether it is
+/// done, its commit of the store fails, or it is refused.
+pub fn a_call_of_a_run_leaves_a_publisher_that_fits<K: Keeper>()
+    ensures fits { (alone : Bool) (start : ℕ) (b : Base) (logs : Archived) (opening s : KeptState) (old new : Publishing K)
+        (w : Writing) (ending : Ending) → PublisherFits K.holds K.faults start b logs opening s old → old.stopped ≡ false →
+        IsTrue (is_of_run w) → MayBeDone w s → Fits b logs opening.n (state_after w s) → HasLayout (state_after w s) →
+        Does K.holds K.faults alone w s old new ending →
+        PublisherFits K.holds K.faults start b logs opening (next_shown (state_after w s) s ending) new }
+{}
+
+/// The items of a call that writes lead from the pairs of a state that has a layout to those of the state after it.
+pub fn a_commit_leads_to_the_next_state()
+    ensures leads { (s : KeptState) (w : Writing) → HasLayout s → MayBeDone w s →
+        after_batch (items_for w s) (pairs_of s) ≡ pairs_of (state_after w s) }
+    // The same of several that one commit of the store does.
+    ensures all { (s : KeptState) (ws : List Writing) → HasLayout s → MayAllBeDone ws s →
+        after_batch (items_for_all ws s) (pairs_of s) ≡ pairs_of (state_after_all ws s) }
+{}
+
+/// A call that writes and is not refused leaves a state that has a layout.
+pub fn a_writing_leaves_a_layout()
+    ensures layout { (s : KeptState) (w : Writing) → HasLayout s → LeavesLayout w s → HasLayout (state_after w s) }
+{}
+
+/// The pairs of a state that has a layout are loaded as that state, with its mark at its count.
+pub fn a_layout_is_loaded()
+    ensures loaded { (s : KeptState) → HasLayout s → loaded (pairs_of s) ≡ Image (as_loaded s) }
+{}
+
+/// A store from which a state is loaded holds the pairs of that state, and no others in the areas of the layout. So a state
+/// has one layout.
+pub fn a_loaded_store_is_a_layout()
+    ensures pairs { (store : Store) (s : KeptState) → IsTrue (is_store store) → IsStoreOfBytes store → loaded store ≡ Image s →
+        pairs_of s ≡ kept_pairs store }
+{}
+
+/// The pairs of a state that belongs to archived logs are a lawful store.
+pub fn a_state_that_belongs_is_lawful()
+    ensures lawful { (logs : Archived) (s : KeptState) → Belongs logs s → IsLawful logs (pairs_of s) }
+{}
+
+/// What items leave of the pairs of a state is what the state's own items and then they leave of nothing.
+pub fn items_follow_on_a_state()
+    ensures follow { (s : KeptState) (items : List Item) → after_batch (items_of s ++ items) [] ≡ after_batch items (pairs_of s) }
+{}
