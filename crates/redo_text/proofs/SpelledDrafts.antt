@@ -32,7 +32,8 @@ spelled_of d = record {
 
 -- ---- steps that go along
 
-bind_map : {A B C D E : Type 0} (h : A → B) (k : C → D) (r : Result A E) (s : Result B E) (f : A → Result C E) (g : B → Result D E) →
+bind_map : {A B C D E : Type 0} (h : A → B) (k : C → D) (r : Result A E) (s : Result B E) (f : A → Result C E) (g : B →
+    Result D E) →
     s ≡ map_ok h r → ((x : A) → g (h x) ≡ map_ok k (f x)) → (s >>= g) ≡ map_ok k (r >>= f)
 bind_map h k (Ok x) s f g e each = rw e (each x)
 bind_map h k (Err d) s f g e each = rw e refl
@@ -149,7 +150,8 @@ text_along : (d : Draft (List RedoRec)) (n : ℕ) (line bytes : List ℕ) →
 text_along d n line [] = last_along d n line
 text_along d n line (b ∷ bytes) =
     if_map spelled_end (b == 10) _ _ _ _
-    (bind_map spelled_of spelled_end (at_line n (line_taken add_record d line)) (at_line n (line_taken add_bytes (spelled_of d) line))
+    (bind_map spelled_of spelled_end (at_line n (line_taken add_record d line))
+    (at_line n (line_taken add_bytes (spelled_of d) line))
     _ _ (ap (at_line n) (taken_along d line) ∙ line_map spelled_of n (line_taken add_record d line))
     (λ e. text_along e (n + 1) [] bytes))
     (text_along d n (line ++ b ∷ []) bytes)

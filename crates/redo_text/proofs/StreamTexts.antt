@@ -22,7 +22,7 @@ use Rattle.redo_spec.specs.Redo.{Records, records_of_cut, decoded_or, with_entry
 use Rattle.redo_spec.proofs.LogLaws.{cut_by}
 use Rattle.redo_wire.specs.declared.raw.Raw.{Raw}
 use Rattle.redo_wire.specs.Records.{missing_after, records_of_raws}
-use Rattle.redo_wire.specs.Stream.{Cut, Stream, stream_at, cut_off, cut_of_piece, stream_after, told_after, run_of, as_cut, end_fault}
+use Rattle.redo_wire.specs.Stream.{Cut, Stream, stream_at, cut_off, cut_of_piece, stream_after, told_after, run_of, as_cut, joined_cut, end_fault}
 use Rattle.redo_text.specs.Showing.{record_text, records_text}
 use Rattle.redo_text.specs.Streaming.{Place, Shown, shown_at, raw_text, raw_after, raws_text, raws_after, cut_text, cut_after, piece_after, pieces_text}
 
@@ -137,6 +137,39 @@ run_text s (piece ∷ pieces) =
     pieces_by c.cause later.cause (end_fault later.stream) s.place c.raws later.raws (pieces_text (piece_after s piece) pieces)
     (λ e. silent (stream_after s.stream piece) pieces (told_by s.stream.fault_told c.cause e))
     (run_text (piece_after s piece) pieces)
+
+-- behind a fault nothing is shown
+pub ended_silent : (s : Shown) (pieces : List (List ℕ)) → s.place.ended ≡ true → pieces_text s pieces ≡ []
+ended_silent s pieces e =
+    run_text s pieces ∙ ended_texts s.place (run_of s.stream pieces).raws
+    (option_or (run_of s.stream pieces).cause (end_fault (run_of s.stream pieces).stream)) e
+
+or_none : (o : Option CutFault) → option_or o None ≡ o
+or_none None = refl
+or_none (Some fault) = refl
+
+-- the law of `redo_wire` on what two pieces give, and leave
+abbrev pub PiecesGiven : Type 0
+PiecesGiven = (s : Stream) (a b : List ℕ) → cut_of_piece s (a ++ b) ≡
+    joined_cut (cut_of_piece s a) (cut_of_piece (stream_after s a) b)
+
+abbrev pub PiecesLeft : Type 0
+PiecesLeft = (s : Stream) (a b : List ℕ) → stream_after s (a ++ b) ≡ stream_after (stream_after s a) b
+
+pub as_two : PiecesGiven → PiecesLeft → (s : Shown) (a b : List ℕ) → pieces_text s ((a ++ b) ∷ []) ≡ pieces_text s (a ∷ b ∷ [])
+as_two given left s a b =
+    let one = cut_of_piece s.stream a in
+    let two = cut_of_piece (stream_after s.stream a) b in
+    let end : Option CutFault = end_fault (stream_after (stream_after s.stream a) b) in
+    run_text s ((a ++ b) ∷ [])
+    ∙ ap (λ (t : Stream). texts s.place ((cut_of_piece s.stream (a ++ b)).raws ++ [])
+    (option_or (option_or (cut_of_piece s.stream (a ++ b)).cause None) (end_fault t))) (left s.stream a b)
+    ∙ ap (λ (c : Cut). texts s.place (c.raws ++ []) (option_or (option_or c.cause None) end)) (given s.stream a b)
+    ∙ ap (λ (raws : List Raw). texts s.place raws (option_or (option_or (option_or one.cause two.cause) None) end))
+    (append_assoc one.raws two.raws [])
+    ∙ ap (λ (o : Option CutFault). texts s.place (one.raws ++ (two.raws ++ [])) (option_or o end))
+    (or_none (option_or one.cause two.cause) ∙ ap (option_or one.cause) (sym (or_none two.cause)))
+    ∙ sym (run_text s (a ∷ b ∷ []))
 
 -- ---- the log as a whole
 

@@ -1,5 +1,5 @@
--- A log as a text says it line by line. What becomes of the records that are whole is left open: a list of them gives the log that
--- the text says (Text.antt), and their spelling is what the program keeps.
+-- A log as a text says it line by line. What becomes of the records that are whole is left open: a list of them gives the log
+-- that the text says (Text.antt), and their spelling is what the program keeps.
 use Rattle.std.specs.Prelude.{ℕ, ◌+◌, List, [], ◌∷◌, ◌++◌, length, Bool, true, ◌==◌, nat_le, nat_lt, if◌then◌else◌, Option, Some, None, Ok, Err, codes}
 use Rattle.std.specs.List.{flat_map}
 use Rattle.rl_value.specs.Order.{same_bytes}

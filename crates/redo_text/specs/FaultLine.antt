@@ -1,4 +1,5 @@
--- The line that is shown where a log cannot be read on: the number of the record, why, the offset in the log, and the bytes there.
+-- The line that is shown where a log cannot be read on: the number of the record, why, the offset in the log, and the bytes
+-- there.
 --   FAULT 3 KIND 149 X'0A00010002'
 -- No text with such a line is written as a log.
 use Rattle.std.specs.Prelude.{ℕ, List, [], ◌∷◌, ◌++◌, codes}

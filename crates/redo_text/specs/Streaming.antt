@@ -1,5 +1,6 @@
 -- A log shown as its bytes come, in whatever pieces: what each piece adds to the text.
--- The records are those that the cutter gives (redo_wire, Stream), decoded. The first fault is shown in a line, and after it nothing.
+-- The records are those that the cutter gives (redo_wire, Stream), decoded. The first fault is shown in a line, and after it
+-- nothing.
 use Rattle.std.specs.Prelude.{ℕ, ◌+◌, List, [], ◌∷◌, ◌++◌, take, drop, Bool, true, false, nat_lt, if◌then◌else◌, Option, Some, None, Result, Ok, Err}
 use Rattle.rl_value.specs.declared.cause.CutFault.{CutFault}
 use Rattle.redo_vec.specs.declared.redo_rec.RedoRec.{RedoRec}
@@ -32,10 +33,16 @@ fault_bytes = 16
 
 abbrev pub raw_text : Place → Raw → Result RedoRec Fault → List ℕ
 raw_text p raw (Ok r) = record_text p.tables r
-raw_text p raw (Err f) = fault_line raw.rec (faults.Vector f.fault) (capped (p.at + f.place)) (take fault_bytes (drop f.place raw.bytes))
+raw_text p raw (Err f) = fault_line raw.rec (faults.Vector f.fault) (capped (p.at + f.place))
+    (take fault_bytes (drop f.place raw.bytes))
 
 abbrev pub raw_after : Place → Raw → Result RedoRec Fault → Place
-raw_after p raw (Ok r) = record { tables = known_behind p.tables r.vectors; rec = capped (raw.rec + 1); at = raw.end; ended = p.ended }
+raw_after p raw (Ok r) = record {
+  tables = known_behind p.tables r.vectors;
+  rec = capped (raw.rec + 1);
+  at = raw.end;
+  ended = p.ended;
+}
 raw_after p raw (Err f) = record p { ended = true }
 
 -- ---- the records of a piece

@@ -1,6 +1,6 @@
 -- The log that a text says, or its first bad line.
--- A line ends with LF; what stands behind the last LF is a line too. Lines count from 1, and what is bad at the end of the text is
--- told of the line behind the last LF.
+-- A line ends with LF; what stands behind the last LF is a line too. Lines count from 1, and what is bad at the end of the
+-- text is told of the line behind the last LF.
 use Rattle.std.specs.Prelude.{ℕ, ◌+◌, List, [], ◌∷◌, ◌++◌, ◌==◌, if◌then◌else◌, Result}
 use Rattle.rl_value.specs.Outcome.{◌>>=◌, map_ok, map_err}
 use Rattle.redo_vec.specs.declared.redo_rec.RedoRec.{RedoRec}

@@ -1,6 +1,7 @@
 //! The lines of a text before its first record, and how far its records have come.
 //!
-//! LOG stands first. DBID has to be there before the first record; FIRST and NEXT are those of the records where they are left out.
+//! LOG stands first. DBID has to be there before the first record; FIRST and NEXT are those of the records where they are left
+//! out.
 ghost use Rattle.std.specs.Prelude.{◌≡◌, ◌+◌, ◌≤◌, ◌==◌, ◌||◌, if◌then◌else◌, Ok, Err, IfOk};
 ghost use Rattle.rl_value.specs.Order.{same_bytes};
 ghost use Rattle.redo_text.specs.Heading.{no_heading, number_alone, given_once, heading_line, behind_log, heading_said, is_heading_word, number_or, scn_after, scn_said, greater, begun_after, next_of, number_there, header_said};

@@ -1,12 +1,12 @@
 //! Printing and reading agree: what the crates above may use of it.
 //!
 //! Each function here only calls the laws that its own follows from; its clauses are the law.
-ghost use Rattle.std.specs.Prelude.{◌≡◌, ◌≤◌, ◌∷◌, [], Ok, List, ℕ, length};
+ghost use Rattle.std.specs.Prelude.{◌≡◌, ◌≤◌, ◌∷◌, ◌++◌, [], true, Ok, List, ℕ, length};
 ghost use Rattle.std.specs.List.{flat_map, concat};
 ghost use Rattle.redo_spec.specs.declared.header.Header.{Header};
 ghost use Rattle.redo_vec.specs.Ranges.{AreBytes};
 ghost use Rattle.redo_vec.specs.Spelling.{record_bytes};
-ghost use Rattle.redo_text.specs.Streaming.{shown_at, pieces_text};
+ghost use Rattle.redo_text.specs.Streaming.{Shown, shown_at, pieces_text};
 ghost use Rattle.redo_spec.specs.Log.{Log, IsLog};
 ghost use Rattle.redo_text.specs.Showing.{text_of_log, records_text};
 ghost use Rattle.redo_text.specs.Text.{log_said};
@@ -30,8 +30,10 @@ pub fn a_text_says_a_log()
     a_line_says_what_fits();
 }
 
-/// In which pieces a log comes is no matter to its text.
+/// In which pieces a log comes is no matter to its text, and behind a fault nothing is shown.
 pub fn pieces_are_shown_as_one()
+    ensures two { (log : Shown) (a b : List ℕ) → pieces_text log ((a ++ b) ∷ []) ≡ pieces_text log (a ∷ b ∷ []) }
+    ensures silent { (log : Shown) (pieces : List (List ℕ)) → log.place.ended ≡ true → pieces_text log pieces ≡ [] }
     ensures same { (head : Header) (pieces : List (List ℕ)) →
         pieces_text (shown_at head) pieces ≡ pieces_text (shown_at head) (concat pieces ∷ []) }
 {

@@ -241,6 +241,13 @@ impl Shown {
         Ok((Shown { cutter, place }, text))
     }
 
+    /// Whether a fault was shown.
+    pub fn has_ended(&self) -> bool
+        ensures exact { result ≡ self.now.place.ended }
+    {
+        self.place.ended
+    }
+
     /// The line that the end of the log's bytes adds, where records are missing and no fault was shown.
     pub fn finish(self, alloc: Global) -> Result<Vec<u8>, NoMemory>
         ensures text { IfOk result (λ text. text.items ≡ end_text self) }

@@ -1,0 +1,15 @@
+use Rattle.std.proofs.Common.{◌≤◌, ◌-◌, length, take}
+use Rattle.std.specs.Io.KnownBytes.{Appends}
+use Rattle.redolog.proofs.output.say.Given as goal
+
+-- so many bytes of the text are written
+abbrev pub invariant-loop-done : goal.invariant-loop-done
+invariant-loop-done g l =
+    let written = g.O.Sink.written in
+    record {
+      within : l.done ≤ length l.text;
+      front : Appends (written l.fn.out) (written l.out) (take l.done l.text);
+    }
+
+abbrev pub decreases-loop-done : goal.decreases-loop-done
+decreases-loop-done g l = length l.text - l.done

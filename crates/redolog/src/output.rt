@@ -1,0 +1,33 @@
+//! Writes text to a sink, in as many pieces as the sink takes.
+ghost use Rattle.std.specs.Prelude.{◌≡◌, ◌≤◌, ◌<◌, length, take, OnOk, OnErr, IfOk, Err};
+ghost use Rattle.std.specs.Io.KnownBytes.{Appends};
+ghost use Rattle.redolog.specs.declared.refusal.Refusal.TheVariants as refusals;
+
+use crate::refusal::Refusal;
+use rl_ports::Sink;
+
+fn put_some<O: Sink>(out: &mut O, piece: &[u8]) -> Result<usize, Refusal>
+    requires some { 0 < length piece.now }
+    ensures bound { IfOk result (λ count. (0 < count) × (count ≤ length piece.now)) }
+    ensures bytes { IfOk result (λ count. Appends (O.written out.old) (O.written out.new) (take count piece.now)) }
+    ensures cause { OnErr result (result ≡ Err refusals.Output) }
+{
+    match out.write(piece) {
+        Ok(0) => Err(Refusal::Output),
+        Ok(count) => Ok(count),
+        Err(_) => Err(Refusal::Output),
+    }
+}
+
+/// Writes all of the text. After a refusal a front of it may be written.
+pub fn say<O: Sink>(out: &mut O, text: &[u8]) -> Result<(), Refusal>
+    ensures whole { OnOk result (Appends (O.written out.old) (O.written out.new) text.now) }
+    ensures cause { OnErr result (result ≡ Err refusals.Output) }
+{
+    let mut done = 0;
+    while done < text.len() {
+        let taken = put_some(out, &text[done..])?;
+        done += taken;
+    }
+    Ok(())
+}
