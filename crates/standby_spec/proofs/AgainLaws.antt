@@ -177,7 +177,8 @@ all-out a s one two three four five six seven =
     (out-append a (applied_in s) (mark_items s.mark) (out-of a 6 (applied_in s) (applied-in s.n s.scn) six)
     (out-of a 7 (mark_items s.mark) (marks-in s.mark) seven))))))
 
-apart-area : (a i : ℕ) → (nat_le 1 i && nat_le i last_area) ≡ true → (nat_le 1 a && nat_le a last_area) ≡ false → (b : Bool) → (a == i) ≡ b → b ≡ false
+apart-area : (a i : ℕ) → (nat_le 1 i && nat_le i last_area) ≡ true → (nat_le 1 a && nat_le a last_area) ≡ false → (b : Bool) →
+    (a == i) ≡ b → b ≡ false
 apart-area a i fits out true is =
     let same : (nat_le 1 a && nat_le a last_area) ≡ true = ap (λ x. nat_le 1 x && nat_le x last_area) (same_nat a i is) ∙ fits in
     absurd (cc)
@@ -255,7 +256,8 @@ own-step a s key true is = refl
 own-step a s key false is =
     let outside = λ (i : ℕ) (in_layout : (nat_le 1 i && nat_le i last_area) ≡ true). apart-area a i in_layout is (a == i) refl in
     sym (found-after-all (a, key) (items_of s) []
-    ∙ all-out a s (outside 1 refl) (outside 2 refl) (outside 3 refl) (outside 4 refl) (outside 5 refl) (outside 6 refl) (outside 7 refl) key None)
+    ∙ all-out a s (outside 1 refl) (outside 2 refl) (outside 3 refl) (outside 4 refl) (outside 5 refl) (outside 6 refl)
+    (outside 7 refl) key None)
 
 pub kept-own : (s : KeptState) → kept_pairs (pairs_of s) ≡ pairs_of s
 unfolding pairs_of

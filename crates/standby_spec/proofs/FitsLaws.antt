@@ -112,7 +112,7 @@ apart_id : (m n : ℕ) → m < n → (m == n) ≡ false
 apart_id m n lt = grind (arith, nat_tests)
 
 -- each table of these shows itself, where the local ones are these behind others of lesser ids
-abbrev FindsItself : Tables → Table → Type 0
+abbrev pub FindsItself : Tables → Table → Type 0
 FindsItself all t = unwrap_or (find (λ u. u.row.id == t.row.id) all) t ≡ t
 
 behind-one : (t : Table) (all ts : Tables) (least : ℕ) → t.row.id < least → ids_rise least (definitions_of ts) ≡ true →
@@ -126,7 +126,7 @@ behind-one t all (u ∷ us) least lt rise is =
       behind-one t all us (u.row.id + 1) (omega (arith, low, lt)) (rise-rest least u us rise) is.1,
     )
 
-finds-itself : (least : ℕ) (ts : Tables) → ids_rise least (definitions_of ts) ≡ true → AllByRecursion (FindsItself ts) ts
+pub finds-itself : (least : ℕ) (ts : Tables) → ids_rise least (definitions_of ts) ≡ true → AllByRecursion (FindsItself ts) ts
 finds-itself least [] rise = tt
 finds-itself least (t ∷ ts) rise = (
   ap (λ b. unwrap_or (if b then Some t else find (λ u. u.row.id == t.row.id) ts) t) (same_id t.row.id),
@@ -148,7 +148,7 @@ all-shown skips n all (t ∷ ts) is =
     λ i. here i ∷ rest i
 
 -- a commit that is not stopped leaves no more rows than the limit
-few-rows : (scn : ℕ) (rows : ℕ) → (if nat_lt live_row_limit rows then Some (RowLimit scn) else None) ≡ None →
+pub few-rows : (scn : ℕ) (rows : ℕ) → (if nat_lt live_row_limit rows then Some (RowLimit scn) else None) ≡ None →
     nat_lt live_row_limit rows ≡ false
 few-rows scn rows e = elim (nat_lt live_row_limit rows) as (λ b. (if b then Some (RowLimit scn) else None) ≡ None → b ≡ false) [
   | true ↦ λ given. absurd (cc)

@@ -52,12 +52,15 @@ not-true true e = absurd (cc)
 
 -- ---- logs
 
-log-rises : (least : ℕ) (e : LogEntry) (logs : List LogEntry) → RiseFrom least logs → least ≤ e.head.seq → entry_of e.head.seq logs ≡ None → RiseFrom least (with_log e logs)
+log-rises : (least : ℕ) (e : LogEntry) (logs : List LogEntry) → RiseFrom least logs → least ≤ e.head.seq →
+    entry_of e.head.seq logs ≡ None → RiseFrom least (with_log e logs)
 log-rises least e [] rise low new = (low, tt)
 log-rises least e (x ∷ logs) rise low new =
-    elim (nat_lt e.head.seq x.head.seq) as (λ b. nat_lt e.head.seq x.head.seq ≡ b → RiseFrom least (if b then e ∷ x ∷ logs else x ∷ with_log e logs)) [
+    elim (nat_lt e.head.seq x.head.seq) as (λ b. nat_lt e.head.seq x.head.seq ≡ b →
+    RiseFrom least (if b then e ∷ x ∷ logs else x ∷ with_log e logs)) [
       | true ↦ λ is. let above : e.head.seq < x.head.seq = grind (arith, nat_tests) in (low, (omega (arith, above), rise.1))
-      | false ↦ λ is. elim (x.head.seq == e.head.seq) as (λ b. (x.head.seq == e.head.seq) ≡ b → (if b then Some x else entry_of e.head.seq logs) ≡ None →
+      | false ↦ λ is. elim (x.head.seq == e.head.seq) as (λ b. (x.head.seq == e.head.seq) ≡ b →
+          (if b then Some x else entry_of e.head.seq logs) ≡ None →
           RiseFrom least (x ∷ with_log e logs)) [
             | true ↦ λ same there. absurd (cc)
             | false ↦ λ other none.
@@ -66,30 +69,36 @@ log-rises least e (x ∷ logs) rise low new =
           ] refl new
     ] refl
 
-all-logs : (P : LogEntry → Type 0) (e : LogEntry) (logs : List LogEntry) → P e → AllByRecursion P logs → AllByRecursion P (with_log e logs)
+all-logs : (P : LogEntry → Type 0) (e : LogEntry) (logs : List LogEntry) → P e → AllByRecursion P logs →
+    AllByRecursion P (with_log e logs)
 all-logs P e [] p all = (p, tt)
-all-logs P e (x ∷ logs) p all = elim (nat_lt e.head.seq x.head.seq) as (λ b. AllByRecursion P (if b then e ∷ x ∷ logs else x ∷ with_log e logs)) [
-  | true ↦ (p, all)
-  | false ↦ (all.0, all-logs P e logs p all.1)
-]
+all-logs P e (x ∷ logs) p all = elim (nat_lt e.head.seq x.head.seq)
+    as (λ b. AllByRecursion P (if b then e ∷ x ∷ logs else x ∷ with_log e logs)) [
+      | true ↦ (p, all)
+      | false ↦ (all.0, all-logs P e logs p all.1)
+    ]
 
 more-logs : (e : LogEntry) (logs : List LogEntry) → length (with_log e logs) ≡ length logs + 1
 more-logs e [] = refl
-more-logs e (x ∷ logs) = elim (nat_lt e.head.seq x.head.seq) as (λ b. length (if b then e ∷ x ∷ logs else x ∷ with_log e logs) ≡ suc (length logs) + 1) [
-  | true ↦ omega arith
-  | false ↦ omega (arith, more-logs e logs)
-]
+more-logs e (x ∷ logs) = elim (nat_lt e.head.seq x.head.seq)
+    as (λ b. length (if b then e ∷ x ∷ logs else x ∷ with_log e logs) ≡ suc (length logs) + 1) [
+      | true ↦ omega arith
+      | false ↦ omega (arith, more-logs e logs)
+    ]
 
 -- an entry of another sequence is found as before
-found-still : (e : LogEntry) (seq : ℕ) (logs : List LogEntry) → (e.head.seq == seq) ≡ false → entry_of seq (with_log e logs) ≡ entry_of seq logs
+found-still : (e : LogEntry) (seq : ℕ) (logs : List LogEntry) → (e.head.seq == seq) ≡ false →
+    entry_of seq (with_log e logs) ≡ entry_of seq logs
 found-still e seq [] other = ap (λ b. if b then Some e else None) other
-found-still e seq (x ∷ logs) other = elim (nat_lt e.head.seq x.head.seq) as (λ b. entry_of seq (if b then e ∷ x ∷ logs else x ∷ with_log e logs) ≡ entry_of seq (x ∷ logs)) [
-  | true ↦ ap (λ b. if b then Some e else entry_of seq (x ∷ logs)) other
-  | false ↦ ap (λ o. if x.head.seq == seq then Some x else o) (found-still e seq logs other)
-]
+found-still e seq (x ∷ logs) other = elim (nat_lt e.head.seq x.head.seq)
+    as (λ b. entry_of seq (if b then e ∷ x ∷ logs else x ∷ with_log e logs) ≡ entry_of seq (x ∷ logs)) [
+      | true ↦ ap (λ b. if b then Some e else entry_of seq (x ∷ logs)) other
+      | false ↦ ap (λ o. if x.head.seq == seq then Some x else o) (found-still e seq logs other)
+    ]
 
 -- an entry that is there is another one than a new one
-there-other : (e : LogEntry) (seq : ℕ) (logs : List LogEntry) → entry_of e.head.seq logs ≡ None → is_some (entry_of seq logs) ≡ true → (b : Bool) → (e.head.seq == seq) ≡ b → b ≡ false
+there-other : (e : LogEntry) (seq : ℕ) (logs : List LogEntry) → entry_of e.head.seq logs ≡ None →
+    is_some (entry_of seq logs) ≡ true → (b : Bool) → (e.head.seq == seq) ≡ b → b ≡ false
 there-other e seq logs new there true is =
     let none : entry_of seq logs ≡ None = ap (λ n. entry_of n logs) (sym (same_nat e.head.seq seq is)) ∙ new in
     absurd (cc)
@@ -99,12 +108,14 @@ lies-there : (k : Mark) (o : Option LogEntry) → lies_in k o ≡ true → is_so
 lies-there k None e = absurd (cc)
 lies-there k (Some x) e = refl
 
-placed-still : (e : LogEntry) (logs : List LogEntry) (n : ℕ) (mark : Option Mark) → entry_of e.head.seq logs ≡ None → IfSome mark (λ k. IsTrue (is_mark_in logs n k)) →
+placed-still : (e : LogEntry) (logs : List LogEntry) (n : ℕ) (mark : Option Mark) → entry_of e.head.seq logs ≡ None →
+    IfSome mark (λ k. IsTrue (is_mark_in logs n k)) →
     IfSome mark (λ k. IsTrue (is_mark_in (with_log e logs) n k))
 placed-still e logs n None new placed = tt
 placed-still e logs n (Some k) new placed =
     let lies : lies_in k (entry_of k.place.seq logs) ≡ true = and-right _ _ placed in
-    let other = there-other e k.place.seq logs new (lies-there k (entry_of k.place.seq logs) lies) (e.head.seq == k.place.seq) refl in
+    let other = there-other e k.place.seq logs new (lies-there k (entry_of k.place.seq logs) lies)
+    (e.head.seq == k.place.seq) refl in
     both-true _ _ (and-left _ _ placed) (ap (lies_in k) (found-still e k.place.seq logs other) ∙ lies)
 
 log-layout : (s : KeptState) (e : LogEntry) → HasLayout s → LeavesLayout (AddLog e) s → HasLayout (state_after (AddLog e) s)
@@ -114,7 +125,8 @@ log-layout s e h may = record {
   base = h.base;
   logs = all-logs (IsLogOf s.dbid s.first) e s.logs may.0 h.logs;
   rising = log-rises 0 e s.logs h.rising (omega arith) may.1.0;
-  beginning = ap is_some (found-still e s.first s.logs (there-other e s.first s.logs may.1.0 h.beginning (e.head.seq == s.first) refl)) ∙ h.beginning;
+  beginning = ap is_some (found-still e s.first s.logs (there-other e s.first s.logs may.1.0 h.beginning (e.head.seq == s.first)
+      refl)) ∙ h.beginning;
   few_logs = let few = may.1.1 in omega (arith, few, more-logs e s.logs);
   tables = h.tables;
   accepted = h.accepted;
@@ -132,7 +144,8 @@ log-layout s e h may = record {
 
 -- ---- rules
 
-none-more : (j : Skip) (skips : List Skip) (k : Skip) → list_any (λ t. same_rule j.rule t.rule) skips ≡ false → same_rule j.rule k.rule ≡ false →
+none-more : (j : Skip) (skips : List Skip) (k : Skip) → list_any (λ t. same_rule j.rule t.rule) skips ≡ false →
+    same_rule j.rule k.rule ≡ false →
     list_any (λ t. same_rule j.rule t.rule) (skips ++ k ∷ []) ≡ false
 none-more j [] k none apart = ap (λ b. b || false) apart
 none-more j (t ∷ skips) k none apart =
@@ -140,13 +153,16 @@ none-more j (t ∷ skips) k none apart =
     let rest = or-second (same_rule j.rule t.rule) (list_any (λ u. same_rule j.rule u.rule) skips) none in
     ap (λ b. b || list_any (λ u. same_rule j.rule u.rule) (skips ++ k ∷ [])) here ∙ none-more j skips k rest apart
 
-differ-more : (skips : List Skip) (k : Skip) → rules_differ skips ≡ true → has_rule skips k.rule ≡ false → rules_differ (skips ++ k ∷ []) ≡ true
+differ-more : (skips : List Skip) (k : Skip) → rules_differ skips ≡ true → has_rule skips k.rule ≡ false →
+    rules_differ (skips ++ k ∷ []) ≡ true
 differ-more [] k e new = refl
 differ-more (j ∷ skips) k e new =
     let here = and-left (not (list_any (λ t. same_rule j.rule t.rule) skips)) (rules_differ skips) e in
-    let apart = none-more j skips k (not-true (list_any (λ t. same_rule j.rule t.rule) skips) here) (or-first (same_rule j.rule k.rule) (has_rule skips k.rule) new) in
+    let apart = none-more j skips k (not-true (list_any (λ t. same_rule j.rule t.rule) skips) here)
+    (or-first (same_rule j.rule k.rule) (has_rule skips k.rule) new) in
     both-true _ _ (ap not apart)
-    (differ-more skips k (and-right (not (list_any (λ t. same_rule j.rule t.rule) skips)) (rules_differ skips) e) (or-second (same_rule j.rule k.rule) (has_rule skips k.rule) new))
+    (differ-more skips k (and-right (not (list_any (λ t. same_rule j.rule t.rule) skips)) (rules_differ skips) e)
+    (or-second (same_rule j.rule k.rule) (has_rule skips k.rule) new))
 
 -- a rule that is not refused is new, and there is room for it
 unrefused : (twice many : Bool) → first_fault ((twice, Twice) ∷ (many, Limit) ∷ []) ≡ None → (twice ≡ false) × (many ≡ false)
@@ -154,19 +170,23 @@ unrefused false false e = (refl, refl)
 unrefused false true e = absurd (cc)
 unrefused true many e = absurd (cc)
 
-room : (skips : List Skip) (k : Skip) → nat_le skip_limit (length skips) ≡ false → nat_le (length (skips ++ k ∷ [])) skip_limit ≡ true
+room : (skips : List Skip) (k : Skip) → nat_le skip_limit (length skips) ≡ false →
+    nat_le (length (skips ++ k ∷ [])) skip_limit ≡ true
 room skips k e =
     let more : length (skips ++ k ∷ []) ≡ length skips + 1 = length-append skips (k ∷ []) in
     let few : length skips + 1 ≤ 256 = grind (arith, nat_tests) in
     grind (arith, nat_tests, more, few)
 
-rules-stay : (skips : List Skip) (k : Skip) → are_skips skips ≡ true → first_fault ((has_rule skips k.rule, Twice) ∷ (nat_le skip_limit (length skips), Limit) ∷ []) ≡ None →
+rules-stay : (skips : List Skip) (k : Skip) → are_skips skips ≡ true →
+    first_fault ((has_rule skips k.rule, Twice) ∷ (nat_le skip_limit (length skips), Limit) ∷ []) ≡ None →
     are_skips (skips ++ k ∷ []) ≡ true
 rules-stay skips k e none =
     let free = unrefused (has_rule skips k.rule) (nat_le skip_limit (length skips)) none in
-    both-true _ _ (room skips k free.1) (differ-more skips k (and-right (nat_le (length skips) skip_limit) (rules_differ skips) e) free.0)
+    both-true _ _ (room skips k free.1) (differ-more skips k
+    (and-right (nat_le (length skips) skip_limit) (rules_differ skips) e) free.0)
 
-rule-layout : (s : KeptState) (rule : Rule) → HasLayout s → LeavesLayout (AddSkip rule) s → HasLayout (state_after (AddSkip rule) s)
+rule-layout : (s : KeptState) (rule : Rule) → HasLayout s → LeavesLayout (AddSkip rule) s →
+    HasLayout (state_after (AddSkip rule) s)
 rule-layout s rule h may = record {
   dbid = h.dbid;
   first = h.first;
@@ -191,28 +211,38 @@ rule-layout s rule h may = record {
 
 -- ---- rows
 
-rows-put : (k v : List Value) (rows : Rows) → AreValues k → AreValues v → AllByRecursion IsRowOfValues rows → AllByRecursion IsRowOfValues (entries.put row_cmp k v rows)
+rows-put : (k v : List Value) (rows : Rows) → AreValues k → AreValues v → AllByRecursion IsRowOfValues rows →
+    AllByRecursion IsRowOfValues (entries.put row_cmp k v rows)
 rows-put k v [] f g all = ((f, g), tt)
-rows-put k v (e ∷ rows) f g all = elim (row_cmp k e.0) as (λ r. AllByRecursion IsRowOfValues (by_order r ((k, v) ∷ e ∷ rows) ((e.0, v) ∷ rows) (e ∷ entries.put row_cmp k v rows))) [
-  | Less ↦ ((f, g), all)
-  | Equal ↦ ((all.0.0, g), all.1)
-  | Greater ↦ (all.0, rows-put k v rows f g all.1)
-]
+rows-put k v (e ∷ rows) f g all = elim (row_cmp k e.0) as (λ r. AllByRecursion IsRowOfValues
+    (by_order r ((k, v) ∷ e ∷ rows) ((e.0, v) ∷ rows) (e ∷ entries.put row_cmp k v rows))) [
+      | Less ↦ ((f, g), all)
+      | Equal ↦ ((all.0.0, g), all.1)
+      | Greater ↦ (all.0, rows-put k v rows f g all.1)
+    ]
 
-row-by : (k : List Value) (v : Option (List Value)) (rows : Rows) → AreValues k → IfSome v AreValues → AllByRecursion IsRowOfValues rows →
+row-by : (k : List Value) (v : Option (List Value)) (rows : Rows) → AreValues k → IfSome v AreValues →
+    AllByRecursion IsRowOfValues rows →
     AllByRecursion IsRowOfValues (write_row rows k v)
 row-by k None rows f g all = all_filter IsRowOfValues (λ e. not (eq_by_cmp row_cmp k e.0)) rows all
 row-by k (Some v) rows f g all = rows-put k v rows f g all
 
-rows-written : (w : Write) (rows : Rows) → IsWholeWrite w → AllByRecursion IsRowOfValues rows → AllByRecursion IsRowOfValues (write_row rows w.key w.row)
+rows-written : (w : Write) (rows : Rows) → IsWholeWrite w → AllByRecursion IsRowOfValues rows →
+    AllByRecursion IsRowOfValues (write_row rows w.key w.row)
 rows-written w rows is all = row-by w.key w.row rows is.key is.row all
 
-values-after : (id : ℕ) (ws : List Write) (rows : Rows) → AllByRecursion IsWholeWrite ws → AllByRecursion IsRowOfValues rows → AllByRecursion IsRowOfValues (rows_after id ws rows)
+values-after : (id : ℕ) (ws : List Write) (rows : Rows) → AllByRecursion IsWholeWrite ws → AllByRecursion IsRowOfValues rows →
+    AllByRecursion IsRowOfValues (rows_after id ws rows)
 values-after id [] rows all f = f
 values-after id (w ∷ ws) rows all f = values-after id ws (if w.table == id then write_row rows w.key w.row else rows) all.1
-    (elim (w.table == id) as (λ b. AllByRecursion IsRowOfValues (if b then write_row rows w.key w.row else rows)) [ true ↦ rows-written w rows all.0 f | false ↦ f ])
+    (elim (w.table == id) as (λ b. AllByRecursion IsRowOfValues (if b then write_row rows w.key w.row else rows)) [
+      | true ↦
+          rows-written w rows all.0 f
+      | false ↦ f
+    ])
 
-values-overlaid : (ws : List Write) (ts : Tables) → AllByRecursion IsWholeWrite ws → AllByRecursion IsTableOfValues ts → AllByRecursion IsTableOfValues (overlaid ts ws)
+values-overlaid : (ws : List Write) (ts : Tables) → AllByRecursion IsWholeWrite ws → AllByRecursion IsTableOfValues ts →
+    AllByRecursion IsTableOfValues (overlaid ts ws)
 values-overlaid ws [] all f = tt
 values-overlaid ws (t ∷ ts) all f = (values-after t.row.id ws t.rows all f.0, values-overlaid ws ts all f.1)
 
@@ -231,7 +261,8 @@ placed-later logs n m (Some k) le placed =
     both-true _ _ (both-true _ _ (and-left _ _ others) (later-count n m k.before le (and-right _ _ others))) lies
 
 -- a state with these writes in place, at a count and an SCN
-rows-layout : (s : KeptState) (ws : List Write) (n scn : ℕ) → HasLayout s → AllByRecursion IsWholeWrite ws → AreSound (overlaid s.tables ws) → passes_limit s.tables ws ≡ false →
+rows-layout : (s : KeptState) (ws : List Write) (n scn : ℕ) → HasLayout s → AllByRecursion IsWholeWrite ws →
+    AreSound (overlaid s.tables ws) → passes_limit s.tables ws ≡ false →
     n < 2 ^ 62 → scn < 2 ^ 64 → s.n ≤ n → HasLayout (record s { tables = overlaid s.tables ws; n = n; scn = scn })
 rows-layout s ws n scn h all sound limit f g le =
     let same = sym (same-definitions ws s.tables) in
@@ -257,12 +288,14 @@ rows-layout s ws n scn h all sound limit f g le =
       placed = placed-later s.logs s.n n s.mark le h.placed;
     }
 
-writable-sound : (ts : Tables) (ws : List Write) → ids_rise 0 (definitions_of ts) ≡ true → AreSound ts → (b : Bool) → can_be_written ts ws ≡ b →
+writable-sound : (ts : Tables) (ws : List Write) → ids_rise 0 (definitions_of ts) ≡ true → AreSound ts → (b : Bool) →
+    can_be_written ts ws ≡ b →
     AreSound (overlaid ts (if b then ws else []))
 writable-sound ts ws rise sound true e = written-sound ts ws rise sound e
 writable-sound ts ws rise sound false e = subst AreSound (sym (overlaid-none ts)) sound
 
-writable-whole : (ts : Tables) (ws : List Write) → AllByRecursion IsWholeWrite ws → (b : Bool) → AllByRecursion IsWholeWrite (if b then ws else [])
+writable-whole : (ts : Tables) (ws : List Write) → AllByRecursion IsWholeWrite ws → (b : Bool) →
+    AllByRecursion IsWholeWrite (if b then ws else [])
 writable-whole ts ws all true = all
 writable-whole ts ws all false = tt
 

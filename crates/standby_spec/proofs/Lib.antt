@@ -17,3 +17,4 @@ pub mod MarkLaws
 pub mod PublisherLaws
 pub mod WrittenLaws
 pub mod LayoutLaws
+pub mod OverLaws

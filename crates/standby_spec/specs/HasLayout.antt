@@ -118,8 +118,9 @@ pub record IsWholeWrite (w : Write) : Type 0 where
   pub key : AreValues w.key
   pub row : IfSome w.row AreValues
 
--- What a call that writes must not be refused for, so that it leaves a state that has a layout: a log that is good, new and not one
--- too many; a rule that is new and not one too many; rows that may be put in place and pass no limit; a mark that lies in a log.
+-- What a call that writes must not be refused for, so that it leaves a state that has a layout: a log that is good, new and not
+-- one too many; a rule that is new and not one too many; rows that may be put in place and pass no limit; a mark that lies in a
+-- log.
 abbrev pub LeavesLayout : Writing → KeptState → Type 0
 LeavesLayout (AddLog e) s = IsLogOf s.dbid s.first e × ((entry_of e.head.seq s.logs ≡ None) × (length s.logs < log_limit))
 LeavesLayout (AddSkip rule) s = IsRule rule × (skip_refusal s rule ≡ None)

@@ -153,13 +153,14 @@ is_of_run (KeepMark k) = true
 abbrev pub group_limit : ℕ
 group_limit = 64
 
--- the state that one call of a run makes of this one, by one writing or by those of a group, and which fits again
+-- the state that one call of a run makes of this one, by one writing or by those of a group; it fits again and has a layout
 pub record IsAhead (b : Base) (logs : Archived) (begun : ℕ) (s later : KeptState) : Type 0 where
   pub writings : List Writing
   pub few : length writings ≤ group_limit
   pub run : IsTrue (list_all is_of_run writings)
   pub made : later ≡ state_after_all writings s
   pub fits : Fits b logs begun later
+  pub layout : HasLayout later
 
 -- what a run may have changed of the state with which it began
 abbrev pub in_run : KeptState → KeptState → KeptState

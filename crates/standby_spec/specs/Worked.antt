@@ -1,6 +1,6 @@
 -- Worked examples: a kept state, its pairs, what changes of it leave of them, and pairs that are no layout. `src/worked.rt`
 -- states each as a theorem that holds by computing. The tables and records are those of `redo_spec` (Worked).
-use Rattle.std.specs.Prelude.{ℕ, ◌≡◌, List, [], ◌∷◌, length, codes, ◌==◌, if◌then◌else◌, Option, Some, None, negsuc}
+use Rattle.std.specs.Prelude.{ℕ, ◌≡◌, List, [], ◌∷◌, length, codes, ◌==◌, if◌then◌else◌, Option, Some, None, negsuc, false}
 use Rattle.rl_value.specs.declared.value.Value.{Value}
 use Rattle.rl_value.specs.declared.value.Value.TheVariants.{Null, Number, Text}
 use Rattle.rl_ports.specs.Store.{Store, after_batch}
@@ -18,6 +18,7 @@ use Rattle.standby_spec.specs.Layout.{pairs_of}
 use Rattle.standby_spec.specs.Writings.{Writing, Publish, state_after, items_for, created_state}
 use Rattle.standby_spec.specs.Loading.{Loaded, loaded}
 use Rattle.standby_spec.specs.Checkpoint.{first_mark, mark_at}
+use Rattle.standby_spec.specs.Publishing.{Publishing}
 
 -- ---- a state
 
@@ -132,3 +133,7 @@ standby_before = standby_of two_changes
 
 abbrev pub standby_after : KeptState
 standby_after = state_after (Publish 103 (put_emp 1 (Text (codes "B")) Null ∷ [])) standby_before
+
+-- a publisher over a store that tells its pairs and never fails, which shows the standby before
+abbrev pub publisher_before : Publishing Store
+publisher_before = record { keeper = pairs_of standby_before; state = Some standby_before; stopped = false }

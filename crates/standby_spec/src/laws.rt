@@ -1,6 +1,7 @@
 //! Laws of the definitions, each stated by a public function with an empty body, or one that only calls laws of lower crates.
 ghost use Rattle.std.specs.Prelude.{◌≡◌, ◌≤◌, ◌+◌, ℕ, List, [], ◌∷◌, ◌++◌, Option, None, Bool, true, false, IsTrue};
 ghost use Rattle.rl_ports.specs.declared.batch.Item.{Item};
+ghost use Rattle.rl_ports.specs.Faults.{Told};
 ghost use Rattle.rl_ports.specs.Store.{Store, is_store, after_batch};
 ghost use Rattle.redo_spec.specs.Dictionary.{ids_rise};
 ghost use Rattle.redo_spec.specs.History.{Commits, commit_count};
@@ -28,7 +29,7 @@ ghost use Rattle.standby_spec.specs.Loading.{Image, loaded, as_loaded, kept_pair
 ghost use Rattle.standby_spec.specs.HasLayout.{HasLayout, IsStoreOfBytes, LeavesLayout, MayBeDone, MayAllBeDone};
 ghost use Rattle.standby_spec.specs.Fits.{Fits, FitsStill};
 ghost use Rattle.standby_spec.specs.Lawful.{Belongs, IsLawful};
-ghost use Rattle.standby_spec.specs.Publishing.{Publishing, Ending, Does, next_shown, is_of_run, PublisherFits};
+ghost use Rattle.standby_spec.specs.Publishing.{Publishing, Ending, Does, next_shown, is_of_run, in_run, PublisherFits};
 
 use redo_reader::laws::{
     the_reader_gives_the_redo, the_reader_gives_the_rest, what_was_ahead_stays,
@@ -70,6 +71,14 @@ pub fn a_state_fits_over_itself()
         IsTrue (ids_rise 0 (definitions_of s.tables)) → FitsStill (base_of s) logs s }
 {}
 
+/// What fits over the state with which a run began fits over each base over which that state did, where both have the same
+/// tables: a change of the run is of a table that is maintained, and of what is not each base shows its own local rows.
+pub fn a_run_fits_over_each_base_of_its_beginning()
+    ensures fits { (b : Base) (logs : Archived) (opening s : KeptState) → FitsStill b logs opening →
+        definitions_of b.tables ≡ definitions_of opening.tables → IsTrue (ids_rise 0 (definitions_of opening.tables)) →
+        s ≡ in_run opening s → Fits (base_of opening) logs opening.n s → Fits b logs opening.n s }
+{}
+
 /// What is ahead of the place of a mark that is right is the rest of the redo behind its record q: a run that begins there reads
 /// it. That it then goes as far as the whole redo is `a_run_from_a_mark_goes_as_far` of `redo_spec`.
 pub fn a_run_from_a_mark_reads_the_rest()
@@ -104,6 +113,13 @@ pub fn a_call_of_a_run_leaves_a_publisher_that_fits<K: Keeper>()
         IsTrue (is_of_run w) → MayBeDone w s → Fits b logs opening.n (state_after w s) → HasLayout (state_after w s) →
         Does K.holds K.faults alone w s old new ending →
         PublisherFits K.holds K.faults start b logs opening (next_shown (state_after w s) s ending) new }
+{}
+
+/// A publisher that fits over the state with which its run began, which belongs to archived logs, leaves a lawful store, stopped
+/// or not.
+pub fn a_publisher_that_fits_leaves_a_lawful_store<K: Keeper>()
+    ensures lawful { (start : ℕ) (logs : Archived) (opening s : KeptState) (p : Publishing K) → Belongs logs opening →
+        PublisherFits K.holds K.faults start (base_of opening) logs opening s p → Told (K.holds p.keeper) (IsLawful logs) }
 {}
 
 /// The items of a call that writes lead from the pairs of a state that has a layout to those of the state after it.

@@ -14,12 +14,15 @@ ghost use Rattle.standby_spec.specs.Layout.{pairs_of, row_place, log_item, table
 ghost use Rattle.standby_spec.specs.Writings.{state_after, AddLog, AddSkip, SetLevel, PutRow, Publish, KeepMark, created_state, created_items};
 ghost use Rattle.standby_spec.specs.Refusals.{base_refusal, local_refusal, publish_refusal, skip_refusal, mark_refusal, Exists, Taken, Twice, NotNext, Early};
 ghost use Rattle.standby_spec.specs.Loading.{loaded, Image, Fresh, Bad};
+ghost use Rattle.standby_spec.specs.HasLayout.{HasLayout, LeavesLayout};
 ghost use Rattle.standby_spec.specs.StandbyRedo.{commits_of};
 ghost use Rattle.standby_spec.specs.Checkpoint.{place_at, first_mark, IsMarkOf};
 ghost use Rattle.standby_spec.specs.NextCommit.{IsNextCommit};
 ghost use Rattle.standby_spec.specs.Fits.{FitsStill, Fits};
+ghost use Rattle.standby_spec.specs.Lawful.{Belongs};
+ghost use Rattle.standby_spec.specs.Publishing.{PublisherFits};
 ghost use Rattle.standby_spec.specs.Worked.{sample, sample_mark, log_of, FollowsOn, moved_email, doubled_email, drop_emp, put_emp, load_spoiled};
-ghost use Rattle.standby_spec.specs.Worked.{logs_of, standby_of, side_log, side_mark, early_mark, two_changes, standby_before, standby_after};
+ghost use Rattle.standby_spec.specs.Worked.{logs_of, standby_of, side_log, side_mark, early_mark, two_changes, standby_before, standby_after, publisher_before};
 
 /// A state is loaded from its pairs, and nothing is fresh.
 pub fn states_are_loaded()
@@ -29,6 +32,12 @@ pub fn states_are_loaded()
         Image (created_state (log_of 1 100 200) (emp ∷ [])) }
     ensures other_mark { loaded (pairs_of (record sample { mark = Some (record sample_mark { n = 1 }) })) ≡ Image sample }
     ensures other_area { loaded (after_batch (Put 9 (codes "X") [] ∷ []) (pairs_of sample)) ≡ Image sample }
+{}
+
+/// The sample has a layout, and a commit may be published over it.
+pub fn a_state_has_a_layout()
+    ensures sample { HasLayout sample }
+    ensures publish { LeavesLayout (Publish 105 moved_email) sample }
 {}
 
 /// What each call that writes leaves of the pairs are the pairs of the state after it.
@@ -103,4 +112,11 @@ pub fn the_next_commit_is_published()
         (put_emp 1 (Text (codes "B")) Null ∷ []) }
     ensures before { FitsStill (base_of standby_before) (logs_of two_changes) standby_before }
     ensures after { Fits (base_of standby_before) (logs_of two_changes) 0 standby_after }
+{}
+
+/// The standby that was created from a log belongs to it, and a publisher that shows it fits.
+pub fn the_standby_belongs_to_its_log()
+    ensures belongs { Belongs (logs_of two_changes) standby_before }
+    ensures publisher { PublisherFits (λ pairs. Some pairs) (λ pairs. 0) 0 (base_of standby_before) (logs_of two_changes)
+        standby_before standby_before publisher_before }
 {}
