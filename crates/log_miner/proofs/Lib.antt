@@ -1,0 +1,4 @@
+pub mod Commits
+pub mod Mapped
+pub mod PlainLaws
+pub mod CommittedLaws

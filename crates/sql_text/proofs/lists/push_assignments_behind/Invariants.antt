@@ -1,0 +1,8 @@
+use Rattle.std.proofs.Common.{◌≡◌, ◌++◌, take}
+use Rattle.std.specs.Prelude.{codes}
+use Rattle.sql_text.specs.SqlText.{followed, assignment}
+use Rattle.sql_text.proofs.lists.push_assignments_behind.Given as goal
+
+-- the cells so far are there
+abbrev pub invariant-loop-cell : goal.invariant-loop-cell
+invariant-loop-cell l = l.out.items ≡ l.fn.out.items ++ followed (codes ", ") (assignment l.table) (take l.cell-index l.cells)

@@ -1,0 +1,9 @@
+use Rattle.std.proofs.Common.{◌≡◌, ◌++◌, take}
+use Rattle.std.specs.Prelude.{codes}
+use Rattle.sql_text.specs.SqlText.{followed, condition, found_after}
+use Rattle.sql_text.proofs.lists.push_found_after_behind.Given as goal
+
+-- the cells so far are there
+abbrev pub invariant-loop-cell : goal.invariant-loop-cell
+invariant-loop-cell l =
+    l.out.items ≡ l.fn.out.items ++ followed (codes " and ") (condition l.table) (found_after (take l.cell-index l.old) l.new)

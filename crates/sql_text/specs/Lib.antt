@@ -1,0 +1,3 @@
+pub mod SqlText
+pub mod Contents
+pub mod Worked
