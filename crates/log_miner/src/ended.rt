@@ -1,10 +1,10 @@
 //! The lines that a vector gives, in both modes.
-ghost use Rattle.std.specs.Prelude.{◌≡◌, ◌++◌, ◌∷◌, [], OnOk, map, Option};
+ghost use Rattle.std.specs.Prelude.{◌≡◌, ◌++◌, OnOk, map};
 ghost use Rattle.std.specs.List.{flat_map};
-ghost use Rattle.sql_text.specs.Contents.{change_line, vector_line};
+ghost use Rattle.sql_text.specs.Contents.{change_line};
 ghost use Rattle.log_miner.specs.Live.{live_of};
 ghost use Rattle.log_miner.specs.MinedLines.{lines_of};
-ghost use Rattle.log_miner.specs.Mining.{taken_back, ended_lines, commit_given, vector_given};
+ghost use Rattle.log_miner.specs.Mining.{ended_lines, commit_given, vector_given};
 
 use crate::live::Live;
 use crate::lives::{is_of, taken_back};

@@ -1,5 +1,5 @@
 //! Laws of the contents, each stated by a public function with an empty body.
-ghost use Rattle.std.specs.Prelude.{◌≡◌, ℕ, ◌-◌, List, ◌∷◌, true, false, None};
+ghost use Rattle.std.specs.Prelude.{◌≡◌, ◌-◌, List, ◌∷◌, true, false, None};
 ghost use Rattle.redo_vec.specs.declared.redo_rec.RedoRec.{RedoRec};
 ghost use Rattle.redo_spec.specs.declared.header.Header.{Header};
 ghost use Rattle.redo_spec.specs.History.{Entry, no_history};

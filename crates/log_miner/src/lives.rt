@@ -1,5 +1,5 @@
 //! The lives transactions of a miner, in order of START.
-ghost use Rattle.std.specs.Prelude.{◌≡◌, ◌++◌, ◌∷◌, [], OnOk, not};
+ghost use Rattle.std.specs.Prelude.{◌≡◌, ◌++◌, ◌∷◌, [], OnOk};
 ghost use Rattle.redo_spec.specs.History.{same_xid};
 ghost use Rattle.log_miner.specs.Live.{started, if_of, with_live, one_more, one_fewer, live_of, live_but, live_after};
 ghost use Rattle.log_miner.specs.Mining.{latest_of, taken_back};

@@ -1,9 +1,9 @@
 //! A miner: takes the pieces of a redo in order, and gives the lines of its contents.
-ghost use Rattle.std.specs.Prelude.{◌≡◌, ◌+◌, ◌≤◌, length, IfOk, IfErr, OnOk, Some};
+ghost use Rattle.std.specs.Prelude.{◌≡◌, ◌+◌, IfOk, IfErr, OnOk, Some};
 ghost use Rattle.redo_spec.specs.Law.{record_fault};
 ghost use Rattle.log_miner.specs.Mining.{unbegun, dictionary_so_far, given_from, refused_standing};
 ghost use Rattle.log_miner.specs.Stages.{standing_in, commits_before, with_going};
-ghost use Rattle.log_miner.specs.Calls.{IsNext, OnLines, records_taken, piece_given, piece_left, given_unless, left_unless, refused_from, last_commit};
+ghost use Rattle.log_miner.specs.Calls.{IsNext, OnLines, records_taken, piece_given, piece_left, given_unless, left_unless, last_commit};
 
 use crate::going::{Going, Stage, count_commits, found, scn_after_all};
 use crate::live::Live;
@@ -38,7 +38,7 @@ impl Model for Miner {
 
     ghost Value = { Mining };
 
-    ghost use Rattle.log_miner.specs.Stages.{standing_in, commits_before};
+    ghost use Rattle.log_miner.specs.Stages.{standing_in, commits_before, with_going};
 
     ghost view = { λ m. record {
       committed = m.committed;

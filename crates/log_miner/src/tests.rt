@@ -1,7 +1,7 @@
 //! A small redo through a miner, in both modes, with ample memory.
-ghost use Rattle.std.specs.Prelude.{◌≡◌, ◌≤◌, ◌+◌, IsTrue, length, OnOk, IfOk};
+ghost use Rattle.std.specs.Prelude.{◌≡◌, ◌≤◌, ◌+◌, IsTrue, OnOk};
 ghost use Rattle.redo_vec.specs.Forms.{is_line30};
-ghost use Rattle.log_miner.specs.Calls.{IsNext, records_taken};
+ghost use Rattle.log_miner.specs.Calls.{records_taken};
 
 use crate::{Mined, MinedLines, Miner};
 use preparers::{Made, Piece};

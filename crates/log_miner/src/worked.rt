@@ -2,13 +2,11 @@
 //!
 //! Each function here has an empty body; its clauses hold by computing both sides. The logs are those of `specs/Worked.antt`,
 //! here and in `redo_spec`.
-ghost use Rattle.std.specs.Prelude.{◌≡◌, ℕ, [], ◌∷◌, ◌++◌, codes, pos, negsuc, Some, None, true, false};
+ghost use Rattle.std.specs.Prelude.{◌≡◌, [], ◌∷◌, ◌++◌, codes, Some, None, true, false};
 ghost use Rattle.rl_value.specs.declared.cause.Cause.TheVariants.{Cut};
 ghost use Rattle.rl_value.specs.declared.cause.CutFault.TheVariants.{Truncated};
-ghost use Rattle.rl_value.specs.declared.value.Value.TheVariants.{Null, Number, Text, Raw};
 ghost use Rattle.rl_value.specs.declared.verdict.Stop.TheVariants.{Drained, Malformed};
-ghost use Rattle.redo_vec.specs.declared.change.Op.TheVariants.{Insert, Update, Delete};
-ghost use Rattle.redo_spec.specs.Worked.{first_bytes, absent_row, undone_update, locked_key, cut_short, n};
+ghost use Rattle.redo_spec.specs.Worked.{first_bytes, absent_row, undone_update, locked_key, cut_short};
 ghost use Rattle.log_miner.specs.Worked.{emp_mined, emp_given, logs_mined, rolled_back_64, crossed};
 
 /// An update with a quote in a text and with Nulls, in both modes.

@@ -1,7 +1,6 @@
 //! Names and values as SQL spells them.
 ghost use Rattle.std.specs.Prelude.{◌≡◌, ◌++◌, ◌∷◌, [], ◌<◌, OnOk};
 ghost use Rattle.std.specs.List.{list_all, flat_map};
-ghost use Rattle.std.specs.Option.{option_map_or};
 ghost use Rattle.rl_value.specs.Literal.{hex, hex_digit, quoted, quoted_byte, is_printed};
 ghost use Rattle.sql_text.specs.SqlText.{identifier, table_identifier, column_name, column_identifier, hex_to_raw, cast_to_text, text_expression, expression};
 

@@ -1,11 +1,11 @@
 //! The lines of a log's contents, one for each vector but those of the dictionary.
-ghost use Rattle.std.specs.Prelude.{◌≡◌, ◌++◌, ◌∷◌, [], OnOk, IfOk, codes};
+ghost use Rattle.std.specs.Prelude.{◌≡◌, ◌++◌, ◌∷◌, [], OnOk, IfOk};
 ghost use Rattle.std.specs.Option.{option_map_or};
 ghost use Rattle.std.specs.Fmt.{decimal};
 ghost use Rattle.rl_value.specs.Literal.{xid_text};
 ghost use Rattle.redo_spec.specs.Skips.{full_name};
 ghost use Rattle.redo_spec.specs.Lines.{words, pos_text};
-ghost use Rattle.sql_text.specs.Contents.{lead, word_line, op_word, texts_of, texts_by, change_words, change_line, undo_line, vector_line};
+ghost use Rattle.sql_text.specs.Contents.{lead, word_line, op_word, texts_of, texts_by, change_line, undo_line, vector_line};
 
 use crate::output::{push_bytes, push_decimal};
 use crate::statement::{push_redo, push_undo};

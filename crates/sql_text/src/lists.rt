@@ -1,8 +1,8 @@
 //! Lists of cells in a statement: columns, values, what is set, and by what a row is found.
-ghost use Rattle.std.specs.Prelude.{◌≡◌, ◌++◌, OnOk, map, filter, codes, unwrap_or};
+ghost use Rattle.std.specs.Prelude.{◌≡◌, ◌++◌, OnOk, codes, unwrap_or};
 ghost use Rattle.redo_spec.specs.ChangeForm.{has_cell};
 ghost use Rattle.redo_spec.specs.ConflictKeys.{cell_of, is_null};
-ghost use Rattle.sql_text.specs.SqlText.{column_text, expression, followed, assignment, condition, column_list, value_list, assignments, conditions, set_back, cell_after, found_after};
+ghost use Rattle.sql_text.specs.SqlText.{column_text, expression, followed, assignment, condition, column_list, value_list, assignments, conditions, set_back, found_after};
 
 use crate::expression::{push_column, push_value};
 use crate::output::push_bytes;
