@@ -1,5 +1,4 @@
 mod Appending
-mod Digits
 mod Lines
 mod OneLog
 mod Prints

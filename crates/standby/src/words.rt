@@ -5,49 +5,20 @@
 //! All other words are none of a command, and so are no words at all.
 ghost use Rattle.std.specs.Prelude.{◌≡◌};
 ghost use Rattle.rl_value.specs.Order.{same_bytes};
-ghost use Rattle.standby.specs.Command.{is_digit, begins_well, fold_of, fold_with, is_later, command_of};
+ghost use Rattle.standby.specs.Command.{fold_of, fold_with, is_later, command_of};
 
 use crate::command::Command;
 use rl_value::Bytes;
-
-// One above the greatest sequence.
-const SEQUENCES: u64 = 1 << 32;
-
-fn is_digit(byte: u8) -> bool
-    ensures { result ≡ is_digit byte }
-{
-    byte >= b'0' && byte <= b'9'
-}
-
-fn begins_well(word: &[u8]) -> bool
-    ensures { result ≡ begins_well word.now }
-{
-    match word {
-        [] => false,
-        [first, ..] => *first >= b'1' && *first <= b'9',
-    }
-}
+use script_words::sequence;
 
 // `fold` with this one word behind it.
 fn fold_command(word: &[u8]) -> Command
     ensures { result ≡ fold_of word.now }
 {
-    if !begins_well(word) {
-        return Command::Wrong;
+    match sequence(word) {
+        Some(seq) => Command::Fold(seq),
+        None => Command::Wrong,
     }
-    let mut sum: u64 = 0;
-    let mut rest = word;
-    while let [first, others @ ..] = rest {
-        if !is_digit(*first) {
-            return Command::Wrong;
-        }
-        sum = 10 * sum + (*first - b'0') as u64;
-        if sum >= SEQUENCES {
-            return Command::Wrong;
-        }
-        rest = others;
-    }
-    Command::Fold(sum as u32)
 }
 
 fn is_word(word: &[u8], other: &[u8]) -> bool
