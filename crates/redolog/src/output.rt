@@ -1,6 +1,7 @@
 //! Writes text to a sink, in as many pieces as the sink takes.
-ghost use Rattle.std.specs.Prelude.{◌≡◌, ◌≤◌, ◌<◌, length, take, OnOk, OnErr, IfOk, Err};
+ghost use Rattle.std.specs.Prelude.{◌≡◌, ◌≢◌, ◌≤◌, ◌<◌, length, take, OnOk, OnErr, IfOk, Err};
 ghost use Rattle.std.specs.Io.KnownBytes.{Appends};
+ghost use Rattle.rl_ports.specs.Faults.{NoneCounted, Rose};
 ghost use Rattle.redolog.specs.declared.refusal.Refusal.TheVariants as refusals;
 
 use crate::refusal::Refusal;
@@ -11,8 +12,13 @@ fn put_some<O: Sink>(out: &mut O, piece: &[u8]) -> Result<usize, Refusal>
     ensures bound { IfOk result (λ count. (0 < count) × (count ≤ length piece.now)) }
     ensures bytes { IfOk result (λ count. Appends (O.written out.old) (O.written out.new) (take count piece.now)) }
     ensures cause { OnErr result (result ≡ Err refusals.Output) }
+    ensures output_failed { result ≡ Err refusals.Output → Rose (O.faults out.old) (O.faults out.new) }
+    ensures output_answered { result ≢ Err refusals.Output →
+        NoneCounted O.counts_failures_alone (O.faults out.old) (O.faults out.new) }
+    ensures output_count { O.faults out.old ≤ O.faults out.new }
 {
     match out.write(piece) {
+        // The sink has counted this as a fault.
         Ok(0) => Err(Refusal::Output),
         Ok(count) => Ok(count),
         Err(_) => Err(Refusal::Output),
@@ -23,6 +29,10 @@ fn put_some<O: Sink>(out: &mut O, piece: &[u8]) -> Result<usize, Refusal>
 pub fn say<O: Sink>(out: &mut O, text: &[u8]) -> Result<(), Refusal>
     ensures whole { OnOk result (Appends (O.written out.old) (O.written out.new) text.now) }
     ensures cause { OnErr result (result ≡ Err refusals.Output) }
+    ensures output_failed { result ≡ Err refusals.Output → Rose (O.faults out.old) (O.faults out.new) }
+    ensures output_answered { result ≢ Err refusals.Output →
+        NoneCounted O.counts_failures_alone (O.faults out.old) (O.faults out.new) }
+    ensures output_count { O.faults out.old ≤ O.faults out.new }
 {
     let mut done = 0;
     while done < text.len() {

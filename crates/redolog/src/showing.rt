@@ -4,7 +4,7 @@
 ghost use Rattle.std.specs.Prelude.{◌≡◌, ◌≢◌, ◌+◌, ◌≤◌, length, take, drop, slice_index, [], true, false, IfOk, OnOk, Some, Err};
 ghost use Rattle.std.specs.Int.{w32};
 ghost use Rattle.std.specs.Io.KnownBytes.{Appends};
-ghost use Rattle.rl_ports.specs.Faults.{Told};
+ghost use Rattle.rl_ports.specs.Faults.{NoneCounted, Rose, Told};
 ghost use Rattle.rl_value.specs.Outcome.{refused_by};
 ghost use Rattle.redo_vec.specs.Cutting.{number_in};
 ghost use Rattle.redo_spec.specs.LogHeader.{header_in};
@@ -36,6 +36,11 @@ fn front<I: Source>(alloc: Global, input: &mut I, last: u64) -> Result<Vec<u8>, 
     ensures bytes { Told (I.left input.old) (λ all. IfOk result (λ front. front.items ≡ take (last + 1) all)) }
     ensures left { Told (I.left input.old) (λ all. OnOk result (I.left input.new ≡ Some (drop (last + 1) all))) }
     ensures undamaged { result ≢ Err refusals.Damaged }
+    ensures no_output { result ≢ Err refusals.Output }
+    ensures input_failed { result ≡ Err refusals.Input → Rose (I.faults input.old) (I.faults input.new) }
+    ensures input_answered { result ≢ Err refusals.Input →
+        NoneCounted I.counts_failures_alone (I.faults input.old) (I.faults input.new) }
+    ensures input_count { I.faults input.old ≤ I.faults input.new }
 {
     match read_all(alloc, input, last) {
         Ok(bytes) => Ok(bytes),
@@ -116,6 +121,14 @@ fn show_head<I: Source, O: Sink>(
         (λ head. head ≡ head_there (own_fault (take 40 bytes)) (take 40 bytes))) }
     ensures left { Told (I.left input.old) (λ bytes. OnOk result (I.left input.new ≡ Some (drop 40 bytes))) }
     ensures undamaged { result ≢ Err refusals.Damaged }
+    ensures input_failed { result ≡ Err refusals.Input → Rose (I.faults input.old) (I.faults input.new) }
+    ensures input_answered { result ≢ Err refusals.Input →
+        NoneCounted I.counts_failures_alone (I.faults input.old) (I.faults input.new) }
+    ensures input_count { I.faults input.old ≤ I.faults input.new }
+    ensures output_failed { result ≡ Err refusals.Output → Rose (O.faults out.old) (O.faults out.new) }
+    ensures output_answered { result ≢ Err refusals.Output →
+        NoneCounted O.counts_failures_alone (O.faults out.old) (O.faults out.new) }
+    ensures output_count { O.faults out.old ≤ O.faults out.new }
 {
     let bytes = front(alloc, input, HEADER_LAST)?;
     let (text, head) = head_lines(alloc, bytes.as_slice())?;
@@ -129,6 +142,14 @@ pub fn head<I: Source, O: Sink>(alloc: Global, input: &mut I, out: &mut O) -> Re
         (Appends (O.written out.old) (O.written out.new) (head_text bytes))) }
     ensures damaged { Told (I.left input.old) (λ bytes. result ≡ Err refusals.Damaged →
         Appends (O.written out.old) (O.written out.new) (head_text bytes)) }
+    ensures input_failed { result ≡ Err refusals.Input → Rose (I.faults input.old) (I.faults input.new) }
+    ensures input_answered { result ≢ Err refusals.Input →
+        NoneCounted I.counts_failures_alone (I.faults input.old) (I.faults input.new) }
+    ensures input_count { I.faults input.old ≤ I.faults input.new }
+    ensures output_failed { result ≡ Err refusals.Output → Rose (O.faults out.old) (O.faults out.new) }
+    ensures output_answered { result ≢ Err refusals.Output →
+        NoneCounted O.counts_failures_alone (O.faults out.old) (O.faults out.new) }
+    ensures output_count { O.faults out.old ≤ O.faults out.new }
 {
     match show_head(alloc, input, out)? {
         Some(_) => Ok(()),
@@ -140,6 +161,11 @@ pub fn head<I: Source, O: Sink>(alloc: Global, input: &mut I, out: &mut O) -> Re
 fn finish<O: Sink>(alloc: Global, log: Shown, out: &mut O) -> Result<(), Refusal>
     ensures shown { OnOk result (Appends (O.written out.old) (O.written out.new) (end_text log)) }
     ensures damaged { result ≡ Err refusals.Damaged → Appends (O.written out.old) (O.written out.new) (end_text log) }
+    ensures no_input { result ≢ Err refusals.Input }
+    ensures output_failed { result ≡ Err refusals.Output → Rose (O.faults out.old) (O.faults out.new) }
+    ensures output_answered { result ≢ Err refusals.Output →
+        NoneCounted O.counts_failures_alone (O.faults out.old) (O.faults out.new) }
+    ensures output_count { O.faults out.old ≤ O.faults out.new }
 {
     let text = log.finish(alloc)?;
     say(out, text.as_slice())?;
@@ -170,6 +196,14 @@ fn show_blocks<I: Source, O: Sink>(
         (Appends (O.written out.old) (O.written out.new) (rest_text begun all))) }
     ensures damaged { Told (I.left input.old) (λ all. result ≡ Err refusals.Damaged →
         Appends (O.written out.old) (O.written out.new) (rest_text begun all)) }
+    ensures input_failed { result ≡ Err refusals.Input → Rose (I.faults input.old) (I.faults input.new) }
+    ensures input_answered { result ≢ Err refusals.Input →
+        NoneCounted I.counts_failures_alone (I.faults input.old) (I.faults input.new) }
+    ensures input_count { I.faults input.old ≤ I.faults input.new }
+    ensures output_failed { result ≡ Err refusals.Output → Rose (O.faults out.old) (O.faults out.new) }
+    ensures output_answered { result ≢ Err refusals.Output →
+        NoneCounted O.counts_failures_alone (O.faults out.old) (O.faults out.new) }
+    ensures output_count { O.faults out.old ≤ O.faults out.new }
 {
     pieces_are_shown_as_one();
     let mut log = begun;
@@ -186,8 +220,8 @@ fn show_blocks<I: Source, O: Sink>(
         }
         log = next;
     }
-    // No log has so many blocks.
-    Err(Refusal::Input)
+    // No log has so many blocks; the answer without a cause stands for it.
+    Err(Refusal::Memory)
 }
 
 /// Shows the header and the records, up to the first fault.
@@ -196,6 +230,14 @@ pub fn show<I: Source, O: Sink>(alloc: Global, input: &mut I, out: &mut O) -> Re
         (Appends (O.written out.old) (O.written out.new) (log_text bytes))) }
     ensures damaged { Told (I.left input.old) (λ bytes. result ≡ Err refusals.Damaged →
         Appends (O.written out.old) (O.written out.new) (log_text bytes)) }
+    ensures input_failed { result ≡ Err refusals.Input → Rose (I.faults input.old) (I.faults input.new) }
+    ensures input_answered { result ≢ Err refusals.Input →
+        NoneCounted I.counts_failures_alone (I.faults input.old) (I.faults input.new) }
+    ensures input_count { I.faults input.old ≤ I.faults input.new }
+    ensures output_failed { result ≡ Err refusals.Output → Rose (O.faults out.old) (O.faults out.new) }
+    ensures output_answered { result ≢ Err refusals.Output →
+        NoneCounted O.counts_failures_alone (O.faults out.old) (O.faults out.new) }
+    ensures output_count { O.faults out.old ≤ O.faults out.new }
 {
     match show_head(alloc, input, out)? {
         Some(head) => show_blocks(alloc, Shown::new(alloc, head), input, out),

@@ -2,11 +2,12 @@
 //!
 //! Nothing is written where a line is bad, so the text is read to its end, and the log's bytes are made, before the first is
 //! written.
-ghost use Rattle.std.specs.Prelude.{◌≡◌, ◌<◌, length, IfOk, OnErr, Ok, Err};
-ghost use Rattle.rl_ports.specs.Faults.{Told};
+ghost use Rattle.std.specs.Prelude.{◌≡◌, ◌≢◌, ◌≤◌, ◌<◌, length, IfOk, OnErr, Ok, Err};
+ghost use Rattle.rl_ports.specs.Faults.{NoneCounted, Rose, Told};
 ghost use Rattle.redo_spec.specs.Log.{Log, IsSpelled};
 ghost use Rattle.redo_text.specs.Text.{log_said};
 ghost use Rattle.redolog.specs.Writing.{Writes, TextOf, LogOf};
+ghost use Rattle.redolog.specs.declared.refusal.Refusal.TheVariants as refusals;
 
 use crate::output::say;
 use crate::refusal::Refusal;
@@ -20,7 +21,12 @@ pub const MOST_TEXT: u64 = 1_073_741_824;
 
 // The whole text.
 fn text_of<I: Source>(alloc: Global, input: &mut I) -> Result<Vec<u8>, Refusal>
-    ensures { Told (I.left input.old) (λ text. TextOf (λ v. v.items) text result) }
+    ensures text { Told (I.left input.old) (λ text. TextOf (λ v. v.items) text result) }
+    ensures no_output { result ≢ Err refusals.Output }
+    ensures input_failed { result ≡ Err refusals.Input → Rose (I.faults input.old) (I.faults input.new) }
+    ensures input_answered { result ≢ Err refusals.Input →
+        NoneCounted I.counts_failures_alone (I.faults input.old) (I.faults input.new) }
+    ensures input_count { I.faults input.old ≤ I.faults input.new }
 {
     let text = match read_all(alloc, input, MOST_TEXT) {
         Ok(text) => text,
@@ -34,7 +40,9 @@ fn text_of<I: Source>(alloc: Global, input: &mut I) -> Result<Vec<u8>, Refusal>
 }
 
 fn log_of(alloc: Global, text: &[u8]) -> Result<Vec<u8>, Refusal>
-    ensures { LogOf (λ v. v.items) text.now result }
+    ensures log { LogOf (λ v. v.items) text.now result }
+    ensures no_input { result ≢ Err refusals.Input }
+    ensures no_output { result ≢ Err refusals.Output }
 {
     match write_log(alloc, text) {
         Ok(log) => Ok(log),
@@ -46,6 +54,14 @@ fn log_of(alloc: Global, text: &[u8]) -> Result<Vec<u8>, Refusal>
 /// Writes the log that the text says, or nothing where its first bad line is told.
 pub fn write<I: Source, O: Sink>(alloc: Global, input: &mut I, out: &mut O) -> Result<(), Refusal>
     ensures written { Told (I.left input.old) (λ text. Writes text (O.written out.old) (O.written out.new) result) }
+    ensures input_failed { result ≡ Err refusals.Input → Rose (I.faults input.old) (I.faults input.new) }
+    ensures input_answered { result ≢ Err refusals.Input →
+        NoneCounted I.counts_failures_alone (I.faults input.old) (I.faults input.new) }
+    ensures input_count { I.faults input.old ≤ I.faults input.new }
+    ensures output_failed { result ≡ Err refusals.Output → Rose (O.faults out.old) (O.faults out.new) }
+    ensures output_answered { result ≢ Err refusals.Output →
+        NoneCounted O.counts_failures_alone (O.faults out.old) (O.faults out.new) }
+    ensures output_count { O.faults out.old ≤ O.faults out.new }
 {
     let text = text_of(alloc, input)?;
     let log = log_of(alloc, text.as_slice())?;

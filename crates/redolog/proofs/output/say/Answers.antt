@@ -8,4 +8,6 @@ loop-done-preserved g c = record {
   within = search rules;
   front = rw (take-more c.args.text.now c.loop-done.done c.in_ok-taken.taken)
       (Appends-trans _ _ _ _ _ c.loop-done.invariant.front c.in_ok-taken.ensures.bytes);
+  none = search rules;
+  later = search rules;
 }
