@@ -475,7 +475,7 @@ fn row(alloc: Global, id: i64, code: Option<i64>) -> Result<Row, Fail> {
     }
 }
 
-// Row 5 in table 2, and these rows in table 1.
+// The row of ID 5 in table 2, and these rows in table 1.
 fn rows_of(alloc: Global, rows: &[Loaded]) -> Result<PlainTables, Fail> {
     let mut tables = PlainTables::new(alloc);
     tables.put(2, row(alloc, 5, None)?, row(alloc, 5, None)?)?;
