@@ -37,7 +37,8 @@ chosen_closes false between name said n is e f h = closes-decimal between n f h
 closes-named : (between : ℕ) (said : List ℕ → Said ℕ) (name : List ℕ) (n : ℕ) → is_plain_byte between ≡ false →
     is_digit between ≡ false → n < 2 ^ 64 → closes between false (name_or_number said name n) ≡ true
 unfolding name_or_number
-closes-named between said name n e f h = chosen_closes (is_plain name && is_said n (said name)) between name (is_said n (said name)) n
+closes-named between said name n e f h = chosen_closes (is_plain name && is_said n (said name))
+    between name (is_said n (said name)) n
     refl e f h
 
 -- ---- tables

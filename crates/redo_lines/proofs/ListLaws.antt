@@ -22,7 +22,8 @@ pub each-map : {A B : Type 0} (P : A → Type 0) (Q : B → Type 0) (f : A → B
 each-map P Q f h [] p = tt
 each-map P Q f h (x ∷ xs) p = (h x p.0, each-map P Q f h xs p.1)
 
-pub each-then : {A : Type 0} (P Q : A → Type 0) → ((x : A) → P x → Q x) → (xs : List A) → AllByRecursion P xs → AllByRecursion Q xs
+pub each-then : {A : Type 0} (P Q : A → Type 0) → ((x : A) → P x → Q x) → (xs : List A) → AllByRecursion P xs →
+    AllByRecursion Q xs
 each-then P Q h [] p = tt
 each-then P Q h (x ∷ xs) p = (h x p.0, each-then P Q h xs p.1)
 
@@ -38,7 +39,8 @@ pub record IsRead {A : Type 0} (stops : List ℕ → Bool) (item : List ℕ → 
   pub goes : stops (word x) ≡ false
   pub read : item (word x) ≡ Ok x
 
-pub items_printed : {A : Type 0} (stops : List ℕ → Bool) (item : List ℕ → Said A) (word : A → List ℕ) (xs : List A) (rest : Line) →
+pub items_printed : {A : Type 0} (stops : List ℕ → Bool) (item : List ℕ → Said A) (word : A →
+    List ℕ) (xs : List A) (rest : Line) →
     AllByRecursion (IsRead stops item word) xs → items_until stops item rest ≡ Ok ([], rest) →
     items_until stops item (map word xs ++ rest) ≡ Ok (xs, rest)
 items_printed stops item word [] rest each stop = stop

@@ -11,12 +11,14 @@ use Rattle.redo_lines.specs.Words.{inside_after, separates, split_from, split}
 use Rattle.redo_lines.proofs.ListLaws.{each-append}
 
 -- the value of a step that did not fail
-pub bind_ok : {A B E : Type 0} (r : Result A E) (f : A → Result B E) (y : B) → (r >>= f) ≡ Ok y → (x : A) × (r ≡ Ok x) × (f x ≡ Ok y)
+pub bind_ok : {A B E : Type 0} (r : Result A E) (f : A → Result B E) (y : B) → (r >>= f) ≡ Ok y →
+    (x : A) × (r ≡ Ok x) × (f x ≡ Ok y)
 bind_ok (Ok x) f y e = (x, refl, e)
 bind_ok (Err d) f y e = absurd cc
 
 -- a test that had to hold
-pub so_ok : {A : Type 0} (t : Bool) (fault : LineFault) (x y : A) → if_so t fault x ≡ Ok y → (t ≡ true) × (if_so true fault x ≡ Ok y)
+pub so_ok : {A : Type 0} (t : Bool) (fault : LineFault) (x y : A) → if_so t fault x ≡ Ok y →
+    (t ≡ true) × (if_so true fault x ≡ Ok y)
 so_ok true fault x y e = (refl, e)
 so_ok false fault x y e = absurd cc
 

@@ -138,4 +138,5 @@ is_line-behind (part ∷ parts) each =
 pub is_line-joined : (words : List (List ℕ)) → AllByRecursion (λ p. closes 32 false p ≡ true) words →
     is_line (joined 32 words) ≡ true
 is_line-joined [] each = refl
-is_line-joined (w ∷ ws) each = is_line-append w (joined_behind 32 ws) (closed-is_line 32 false w each.0) (is_line-behind ws each.1)
+is_line-joined (w ∷ ws) each =
+    is_line-append w (joined_behind 32 ws) (closed-is_line 32 false w each.0) (is_line-behind ws each.1)

@@ -428,7 +428,8 @@ line_is n (Err f) y e = absurd cc
 last_sound : (law : Fitting) (d : Draft Records) (n : ℕ) (line : List ℕ) (y : Header × Records) → IsDraft d → AreBytes line →
     last_line add_record d n line ≡ Ok y → Whole y
 last_sound law d n line y ok bytes e =
-    let a = bind_ok (line_taken add_record d line) _ y (line_is n (line_taken add_record d line >>= λ f. finished add_record f) y e) in
+    let a = bind_ok (line_taken add_record d line) _ y
+    (line_is n (line_taken add_record d line >>= λ f. finished add_record f) y e) in
     end_sound a.0 y (taken_sound law d a.0 line ok bytes a.1) a.2
 
 text_sound : (law : Fitting) (d : Draft Records) (n : ℕ) (line bytes : List ℕ) (y : Header × Records) → IsDraft d →
@@ -456,7 +457,8 @@ beginning_sound = record {
   open_fits = refl;
 }
 
-log_there : (r : Result (Header × Records) Bad) (l : Log) → map_ok log_of r ≡ Ok l → (y : Header × Records) × (r ≡ Ok y) × (log_of y ≡ l)
+log_there : (r : Result (Header × Records) Bad) (l : Log) → map_ok log_of r ≡ Ok l →
+    (y : Header × Records) × (r ≡ Ok y) × (log_of y ≡ l)
 log_there (Ok y) l e = (y, refl, whole_is (log_of y) l e)
 log_there (Err b) l e = absurd cc
 
@@ -468,7 +470,8 @@ log_sound law text l bytes e =
 
 -- ---- what is written
 
-spelled_said : (r : Result Log Bad) (bytes : List ℕ) → map_ok log_bytes r ≡ Ok bytes → (l : Log) × (r ≡ Ok l) × (log_bytes l ≡ bytes)
+spelled_said : (r : Result Log Bad) (bytes : List ℕ) → map_ok log_bytes r ≡ Ok bytes →
+    (l : Log) × (r ≡ Ok l) × (log_bytes l ≡ bytes)
 spelled_said (Ok l) bytes e = (l, refl, whole_is (log_bytes l) bytes e)
 spelled_said (Err b) bytes e = absurd cc
 
