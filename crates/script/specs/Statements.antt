@@ -5,7 +5,8 @@
 --   SKIP TABLE pattern                           REPLAY appliers [CACHE c] [EAGER e] event ..
 --   SKIP TRANSACTION xid                         VIEW PROGRESS | LOG | STATE | SKIP | EVENTS
 --   GUARD ALL | STANDBY                          MARK distance
---   SESSION name                                 CHECK
+--   SESSION name                                 GROUP count
+--                                                CHECK
 -- A form is ALL, COUNT or KEY value ..; a table is SCHEMA.NAME; `..` is one or more words.
 -- A pattern is any one word here: whether it is a pattern is asked when the statement is done.
 use Rattle.std.specs.Prelude.{ℕ, List, [], ◌∷◌, if◌then◌else◌, codes, Option, Some, None}
@@ -22,7 +23,7 @@ use Rattle.script_words.specs.Words.{words_of}
 use Rattle.script.specs.declared.statement.TableName.{TableName}
 use Rattle.script.specs.declared.statement.Asked.{Asked}
 use Rattle.script.specs.declared.statement.Statement.{Statement}
-use Rattle.script.specs.declared.statement.Statement.TheVariants.{Create, Row, Register, SkipTable, SkipTransaction, Guard, Session, Query, Put, Apply, Replay, View, Mark, Check}
+use Rattle.script.specs.declared.statement.Statement.TheVariants.{Create, Row, Register, SkipTable, SkipTransaction, Guard, Session, Query, Put, Apply, Replay, View, Mark, Group, Check}
 use Rattle.script.specs.Fields.{is, table_of, values_of, form_of}
 use Rattle.script.specs.Events.{events_of}
 use Rattle.script.specs.Settings.{Set, workers, settings_of}
@@ -129,6 +130,10 @@ unfoldable pub mark_of : List (List ℕ) → Option Statement
 mark_of (distance ∷ []) = option_map Mark (number_in 1 10000 distance)
 mark_of other = None
 
+unfoldable pub group_of : List (List ℕ) → Option Statement
+group_of (count ∷ []) = option_map Group (number_in 1 64 count)
+group_of other = None
+
 unfoldable pub check_of : List (List ℕ) → Option Statement
 check_of [] = Some Check
 check_of (word ∷ words) = None
@@ -156,6 +161,7 @@ statement_with word words =
     else if is (codes "SKIP") word then skip_of words
     else if is (codes "GUARD") word then guard_of words
     else if is (codes "MARK") word then mark_of words
+    else if is (codes "GROUP") word then group_of words
     else user_statement word words
 
 unfoldable pub statement_of_words : List (List ℕ) → Option Statement

@@ -5,7 +5,9 @@ ghost use Rattle.script.specs.Lines.{is_passed, said_of_line};
 ghost use Rattle.script.specs.Statements.{user_statement, statement_with, statement_of_words, statement_of};
 
 use crate::run_statements::{apply_of, check_of, replay_of, view_statement_of};
-use crate::standby_statements::{create_of, guard_of, mark_of, register_of, row_of, skip_of};
+use crate::standby_statements::{
+    create_of, group_of, guard_of, mark_of, register_of, row_of, skip_of,
+};
 use crate::statement::Statement;
 use crate::user_statements::{put_of, query_of, session_of};
 use rl_value::Bytes;
@@ -61,6 +63,9 @@ fn statement_with(alloc: Global, word: &[u8], words: &[Bytes]) -> Result<Stateme
     }
     if is_word(word, b"MARK") {
         return mark_of(words);
+    }
+    if is_word(word, b"GROUP") {
+        return group_of(words);
     }
     user_statement(alloc, word, words)
 }

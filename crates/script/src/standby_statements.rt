@@ -3,13 +3,13 @@ ghost use Rattle.std.specs.Prelude.{◌≡◌};
 ghost use Rattle.std.specs.List.{list_all};
 ghost use Rattle.rl_base.specs.Lines.{is_inside, is_line};
 ghost use Rattle.script_words.specs.Given.{Gives};
-ghost use Rattle.script.specs.Statements.{level_of, create_of, row_of, register_of, skip_table, skip_of, guard_of, mark_of};
+ghost use Rattle.script.specs.Statements.{level_of, create_of, row_of, register_of, skip_table, skip_of, guard_of, mark_of, group_of};
 
 use crate::fields::{table_of, values_of};
 use crate::statement::Statement;
 use rl_base::{LF, Line};
 use rl_value::Bytes;
-use script_words::{WordsFault, is_word, of_32_bits, sequence, u32_in, xid_of};
+use script_words::{WordsFault, is_word, of_32_bits, sequence, u8_in, u32_in, xid_of};
 use skip_guard::Level;
 use std::alloc::Global;
 
@@ -129,6 +129,19 @@ pub(crate) fn mark_of(words: &[Bytes]) -> Result<Statement, WordsFault>
         [distance] => {
             let distance = u32_in(1, 10000, distance.bytes()).ok_or(WordsFault::Grammar)?;
             Ok(Statement::Mark(distance))
+        }
+        _ => Err(WordsFault::Grammar),
+    }
+}
+
+#[tactic(auto, unfolding(crate::specs::Statements::group_of))]
+pub(crate) fn group_of(words: &[Bytes]) -> Result<Statement, WordsFault>
+    ensures { Gives (λ x. x) result (group_of words.now) }
+{
+    match words {
+        [count] => {
+            let count = u8_in(1, 64, count.bytes()).ok_or(WordsFault::Grammar)?;
+            Ok(Statement::Group(count))
         }
         _ => Err(WordsFault::Grammar),
     }

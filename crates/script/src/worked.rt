@@ -7,7 +7,7 @@ ghost use Rattle.rl_base.specs.declared.replay.Event.TheVariants as events;
 ghost use Rattle.rl_base.specs.declared.which.Which.TheVariants as views;
 ghost use Rattle.skip_guard.specs.declared.guard.Level.TheVariants as levels;
 ghost use Rattle.script.specs.declared.statement.Asked.TheVariants.{All, Count, Key};
-ghost use Rattle.script.specs.declared.statement.Statement.TheVariants.{Create, Row, Register, SkipTable, SkipTransaction, Guard, Session, Query, Put, Apply, Replay, View, Mark, Check};
+ghost use Rattle.script.specs.declared.statement.Statement.TheVariants.{Create, Row, Register, SkipTable, SkipTransaction, Guard, Session, Query, Put, Apply, Replay, View, Mark, Group, Check};
 ghost use Rattle.script_words.specs.Parts.{xid_named};
 ghost use Rattle.script.specs.Statements.{statement_of};
 ghost use Rattle.script.specs.Lines.{script_of};
@@ -29,6 +29,7 @@ pub fn lines_are_statements()
     ensures apply { statement_of (codes "APPLY 2 4") ≡ Some (Apply 2 4 4096 200) }
     ensures view { statement_of (codes "VIEW EVENTS") ≡ Some (View views.Events) }
     ensures mark { statement_of (codes "MARK 10000") ≡ Some (Mark 10000) }
+    ensures group { statement_of (codes "GROUP 64") ≡ Some (Group 64) }
     ensures check { statement_of (codes "CHECK") ≡ Some Check }
 {}
 
@@ -57,6 +58,7 @@ pub fn lines_are_none()
     ensures no_dot { statement_of (codes "QUERY S EMP ALL") ≡ None }
     ensures no_value { statement_of (codes "ROW HR.EMP") ≡ None }
     ensures two_numbers { statement_of (codes "SKIP TRANSACTION 1.2") ≡ None }
+    ensures large_group { statement_of (codes "GROUP 65") ≡ None }
 {}
 
 /// A quote inside a word begins no text.
