@@ -1,0 +1,12 @@
+//! Logical change records: changes with their positions in the redo, and chunks of them.
+#![tactic(auto)]
+
+mod change_record;
+mod chunk;
+mod chunk_form;
+#[cfg(test)]
+mod tests;
+
+pub use change_record::Lcr;
+pub use chunk::Chunk;
+pub use chunk_form::{MAX_CHUNK, is_chunk};
