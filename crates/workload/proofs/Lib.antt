@@ -1,0 +1,5 @@
+pub mod TextLaws
+pub mod SizeLaws
+pub mod StepLaws
+pub mod LogLaws
+pub mod SpelledLaws
