@@ -1,0 +1,4 @@
+pub mod Answering
+pub mod Finding
+pub mod LineForms
+pub mod Opening

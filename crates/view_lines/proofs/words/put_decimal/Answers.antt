@@ -1,0 +1,7 @@
+use Rattle.std.proofs.Common.{arith}
+use Rattle.view_lines.proofs.LineForms.{decimal_is_line}
+use Rattle.view_lines.proofs.words.put_decimal.Goals as goal
+
+-- digits end no line
+pub extend-requires : goal.extend-requires
+extend-requires c = record { inside = rw (c.as_bytes.ensures.value, c.in-Ok.ensures.ok) (decimal_is_line _ (omega arith)) }
