@@ -3,3 +3,4 @@ pub mod SizeLaws
 pub mod StepLaws
 pub mod LogLaws
 pub mod SpelledLaws
+pub mod EndLaws

@@ -4,5 +4,6 @@ pub mod Accounts
 pub mod Pairs
 pub mod Workload
 pub mod Texts
+pub mod Ends
 pub mod Summary
 pub mod Worked

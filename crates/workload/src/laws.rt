@@ -3,6 +3,7 @@ ghost use Rattle.std.specs.Prelude.{◌≡◌, ◌<◌, ◌^◌, ℕ, length};
 ghost use Rattle.std.specs.List.{AllByRecursion};
 ghost use Rattle.redo_spec.specs.Log.{IsLog};
 ghost use Rattle.workload.specs.Workload.{workload_logs, log_count, AreChained};
+ghost use Rattle.workload.specs.Ends.{ended_in_logs, counted_up};
 
 /// Each log of a workload has a spelling: each number fits its field, also the greatest balance, and no record is too long.
 pub fn a_workload_is_spelled()
@@ -13,4 +14,9 @@ pub fn a_workload_is_spelled()
 pub fn a_workload_has_no_gap()
     ensures counted { (seed txns : ℕ) → length (workload_logs seed txns) ≡ log_count txns }
     ensures chained { (seed txns : ℕ) → AreChained 1 1 (workload_logs seed txns) }
+{}
+
+/// Each transaction of a workload ends once, by a COMMIT or a ROLLBACK, in the order of their numbers from 1 on.
+pub fn a_workload_ends_each_transaction()
+    ensures ended { (seed txns : ℕ) → ended_in_logs (workload_logs seed txns) ≡ counted_up 1 txns }
 {}

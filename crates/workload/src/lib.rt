@@ -17,5 +17,5 @@ mod text;
 pub mod worked;
 mod written;
 
-pub use laws::{a_workload_has_no_gap, a_workload_is_spelled};
+pub use laws::{a_workload_ends_each_transaction, a_workload_has_no_gap, a_workload_is_spelled};
 pub use logs::generate;
