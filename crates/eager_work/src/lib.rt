@@ -1,0 +1,17 @@
+//! What an applier makes of a transaction's changes ahead of its commit.
+#![tactic(auto)]
+
+mod commit;
+mod did;
+mod gathering;
+mod job;
+pub mod laws;
+mod part;
+#[cfg(test)]
+mod tests;
+mod waiting;
+mod work;
+
+pub use commit::Commit;
+pub use job::{Job, Outcome};
+pub use work::Work;
