@@ -1,5 +1,5 @@
 -- The writes that a work leaves, put together part by part.
-use Rattle.std.proofs.Common.{◌≡◌, ℕ, zero, suc, ◌+◌, ◌-◌, List, [], ◌∷◌, ◌++◌, map, take, length, refl, sym, ap, ◌∙◌, Bool, true, false, ◌&&◌, append_assoc, arith, Option, Some, None, Result, Ok, Err}
+use Rattle.std.proofs.Common.{◌≡◌, ℕ, zero, suc, ◌+◌, ◌-◌, ◌<◌, ◌≤◌, List, [], ◌∷◌, ◌++◌, map, take, drop, get_or, length, refl, sym, ap, ◌∙◌, Bool, true, false, ◌&&◌, append_assoc, add-one, drop-cons, arith, Option, Some, None, Result, Ok, Err}
 use Rattle.std.specs.Prelude.{IfOk}
 use Rattle.std.specs.List.{AllByRecursion}
 use Rattle.std.specs.List.Sorted.{IsStrictlySortedBy}
@@ -8,7 +8,7 @@ use Rattle.std.specs.Option.{option_or}
 use Rattle.std.specs.BTreeMap.{insert_entry}
 use Rattle.std.specs.Ordering.{is_lt, match_ordering}
 use Rattle.std.specs.declared.cmp.Ordering.TheVariants.{Less, Equal, Greater}
-use Rattle.std.proofs.lemmas.List.{append-nil, take_all}
+use Rattle.std.proofs.lemmas.List.{append-nil, length-append, length-take-le, take_all}
 use Rattle.std.proofs.lemmas.Map.Keys.{sorted_head, sorted_tail}
 use Rattle.rl_value.specs.declared.value.Value.{Value}
 use Rattle.rl_value.specs.declared.key.Key.{Key}
@@ -18,16 +18,16 @@ use Rattle.redo_spec.specs.Work.{Written}
 use Rattle.row_apply.specs.declared.writes.Write.{Write}
 use Rattle.row_apply.specs.Overlaid.{writes_rise, written_key}
 use Rattle.row_apply.specs.Kept.{ArePrimary}
-use Rattle.row_apply.specs.Written.{writes_in, write_of}
+use Rattle.row_apply.specs.Written.{writes_in, write_of, put_writes}
 use Rattle.eager_work.specs.declared.did.Did.{Did}
 use Rattle.eager_work.specs.declared.waiting.Waiting.{Waiting}
 use Rattle.eager_work.specs.declared.waiting.Conflict.{Conflict}
-use Rattle.eager_work.specs.Attempts.{Attempt, put_writes, writes_tried, all_written, writes, missed_at, stuck}
+use Rattle.eager_work.specs.Attempts.{Attempt, writes_tried, all_written, writes, missed_at, stuck}
 use Rattle.eager_work.specs.Keeping.{came_by, done_attempt, conflict_attempts, waiting_attempt, joined, attempts_kept, missed_by, writes_by, put_dids, put_parts}
 
 -- ---- put one behind the other
 
-put-append : (last : List Written) (xs ys : List Write) → put_writes last (xs ++ ys) ≡ put_writes (put_writes last xs) ys
+pub put-append : (last : List Written) (xs ys : List Write) → put_writes last (xs ++ ys) ≡ put_writes (put_writes last xs) ys
 put-append last [] ys = refl
 put-append last (x ∷ xs) ys = put-append (insert_entry key_cmp last (written_key x) x.row) xs ys
 
@@ -46,7 +46,7 @@ put_dids-append last [] ys = refl
 put_dids-append last (x ∷ xs) ys = put_dids-append (put_writes last (writes_by x.wrote)) xs ys
 
 -- a front of two lists
-take-both : {A : Type 0} (n : ℕ) (xs ys : List A) → take n (xs ++ ys) ≡ take n xs ++ take (n - length xs) ys
+pub take-both : {A : Type 0} (n : ℕ) (xs ys : List A) → take n (xs ++ ys) ≡ take n xs ++ take (n - length xs) ys
 take-both zero xs ys =
     let none : 0 ≡ 0 - length xs = omega arith in
     ap (λ k. take k ys) none
@@ -63,6 +63,31 @@ put_parts-all last (p ∷ ps) n =
     put_parts-all (put_dids last (take n p)) ps (n - length p)
     ∙ sym (put_dids-append last (take n p) (take (n - length p) (joined ps)))
     ∙ ap (put_dids last) (sym (take-both n p (joined ps)))
+
+-- ---- parts
+
+pub joined-more : (ps : List (List Did)) (p : List Did) → joined (ps ++ p ∷ []) ≡ joined ps ++ p
+joined-more [] p = append-nil p
+joined-more (q ∷ ps) p = ap (λ ds. q ++ ds) (joined-more ps p) ∙ sym (append_assoc q (joined ps) p)
+
+-- the changes so far, with the front of one part more
+pub settled_more : (settled new : List (List Did)) (left less : ℕ) (front : List Did) (parts : List (List Did)) (i : ℕ)
+    (part total : List Did) → i < length parts → part ≡ get_or parts i part → new ≡ settled ++ front ∷ [] →
+    front ≡ take left part → less ≡ left - length part →
+    joined settled ++ take left (joined (drop i parts)) ≡ total → joined new ++ take less (joined (drop (i + 1) parts)) ≡ total
+settled_more settled new left less front parts i part total low is pushed fronted rest so_far =
+    let more = joined (drop (i + 1) parts) in
+    let one : drop i parts ≡ part ∷ drop (i + 1) parts =
+    drop-cons parts i part low ∙ ap (λ (p : List Did). p ∷ drop (suc i) parts) (sym is)
+    ∙ ap (λ (k : ℕ). part ∷ drop k parts) (sym (add-one i)) in
+    ap (λ (ps : List (List Did)). joined ps ++ take less more) pushed
+    ∙ ap (λ (ds : List Did). ds ++ take less more) (joined-more settled front)
+    ∙ append_assoc (joined settled) front (take less more)
+    ∙ ap (λ (ds : List Did). joined settled ++ (ds ++ take less more)) fronted
+    ∙ ap (λ (k : ℕ). joined settled ++ (take left part ++ take k more)) rest
+    ∙ ap (λ (ds : List Did). joined settled ++ ds) (sym (take-both left part more))
+    ∙ ap (λ (ps : List (List Did)). joined settled ++ take left (joined ps)) (sym one)
+    ∙ so_far
 
 -- ---- what is written
 
@@ -97,9 +122,39 @@ gathered_so ps n c ws =
     ∙ append-nil (did_writes ds) in
     ap writes_in (put_parts-all [] ps n ∙ put_dids-all [] ds ∙ ap (put_writes []) (sym told))
 
+-- what changes leave that were done behind so many of the changes of these parts
+module _ (parts after : List (List Did)) (standing count : ℕ) (done : List Did) (few : standing ≤ length (joined parts))
+    (is : joined after ≡ take standing (joined parts) ++ done) (many : count ≡ standing + length done) where
+  all_long : length (take standing (joined parts) ++ done) ≡ count
+  all_long = omega (arith, length-append (take standing (joined parts)) done, length-take-le standing (joined parts) few, many)
+
+  pub finish_few : count ≤ length (joined after)
+  finish_few = omega (arith, ap length is, all_long)
+
+  pub finish_all : take count (joined after) ≡ take standing (joined parts) ++ done
+  finish_all = ap (take count) is ∙ take_all count (take standing (joined parts) ++ done) (omega (arith, all_long))
+
+  pub finish_over : (c : Option Conflict) (ws : List Waiting) (over : List Write) →
+      over ≡ writes (map done_attempt (take standing (joined parts) ++ done) ++ (conflict_attempts c ++ map waiting_attempt ws)) →
+      over ≡ writes_in (put_parts [] after count)
+  finish_over c ws over e =
+      e
+      ∙ ap (λ (ds : List Did). writes (map done_attempt ds ++ (conflict_attempts c ++ map waiting_attempt ws))) (sym finish_all)
+      ∙ sym (gathered_so after count c ws)
+
+-- no change was done yet
+pub begin_over : (parts : List (List Did)) (standing : ℕ) (done : List Did) (c : Option Conflict) (ws : List Waiting)
+    (over : List Write) → done ≡ [] → over ≡ writes_in (put_parts [] parts standing) →
+    over ≡ writes (map done_attempt (take standing (joined parts) ++ done) ++ (conflict_attempts c ++ map waiting_attempt ws))
+begin_over parts standing done c ws over none e =
+    e
+    ∙ gathered_so parts standing c ws
+    ∙ ap (λ (ds : List Did). writes (map done_attempt ds ++ (conflict_attempts c ++ map waiting_attempt ws)))
+    (sym (ap (λ (ds : List Did). take standing (joined parts) ++ ds) none ∙ append-nil (take standing (joined parts))))
+
 -- ---- the writes rise
 
-primary_inserted : (es : List Written) (key : Key) (row : Option (List Value)) → ArePrimary es → key.index ≡ 0 →
+pub primary_inserted : (es : List Written) (key : Key) (row : Option (List Value)) → ArePrimary es → key.index ≡ 0 →
     ArePrimary (insert_entry key_cmp es key row)
 primary_inserted [] key row p k = (k, tt)
 primary_inserted (e ∷ es) key row p k =
@@ -156,7 +211,7 @@ missed_none : (at : Pos) (table : ℕ) (o : Option (List Write)) → missed_at a
 missed_none at table None = refl
 missed_none at table (Some ws) = refl
 
-stuck_done : (ds : List Did) (rest : List Attempt) → stuck (map done_attempt ds ++ rest) ≡ stuck rest
+pub stuck_done : (ds : List Did) (rest : List Attempt) → stuck (map done_attempt ds ++ rest) ≡ stuck rest
 stuck_done [] rest = refl
 stuck_done (d ∷ ds) rest =
     ap (λ m. option_or m (stuck (map done_attempt ds ++ rest))) (missed_none d.pos d.table d.wrote) ∙ stuck_done ds rest

@@ -1,4 +1,13 @@
+pub mod Agreeing
+pub mod Alike
+pub mod Earliness
+pub mod EarlyLaws
 pub mod Gathered
-pub mod Standing
+pub mod Given
+pub mod Holding
+pub mod Overlaying
+pub mod Pairing
+pub mod Timely
+pub mod Trying
 pub mod Undoing
 pub mod WorkLaws

@@ -1,9 +1,8 @@
 -- Laws of the work of a transaction: more changes at one count go on with it, an UNDO takes back its last one, and behind a miss
 -- nothing is tried.
-use Rattle.std.proofs.Common.{◌≡◌, ℕ, ◌+◌, ◌-◌, ◌≤◌, List, [], ◌∷◌, ◌++◌, length, take, sym, ap, subst, ◌∙◌, refl, arith, append_assoc, Option, Some, None, Result, Ok, Err}
+use Rattle.std.proofs.Common.{◌≡◌, ℕ, ◌+◌, ◌≤◌, List, [], ◌∷◌, ◌++◌, length, sym, ap, subst, ◌∙◌, refl, arith, append_assoc, Option, Some, None, Result, Ok, Err}
 use Rattle.std.specs.Option.{option_or}
 use Rattle.std.proofs.lemmas.List.{append-nil, length-append}
-use Rattle.rl_value.specs.declared.pos.Pos.{Pos}
 use Rattle.redo_vec.specs.declared.table.TableRow.{TableRow}
 use Rattle.redo_spec.specs.History.{Placed}
 use Rattle.redo_spec.specs.Skips.{Skip}
@@ -149,13 +148,13 @@ or-none : (x : Option Missed) → option_or x None ≡ x
 or-none None = refl
 or-none (Some m) = refl
 
-stuck-more : (xs : List Attempt) (x : Attempt) → stuck (xs ++ x ∷ []) ≡ option_or (stuck xs) (missed_at x.pos x.table x.came)
+pub stuck-more : (xs : List Attempt) (x : Attempt) → stuck (xs ++ x ∷ []) ≡ option_or (stuck xs) (missed_at x.pos x.table x.came)
 stuck-more [] x = or-none (missed_at x.pos x.table x.came)
 stuck-more (y ∷ ys) x =
     ap (λ o. option_or (missed_at y.pos y.table y.came) o) (stuck-more ys x)
     ∙ or-assoc (missed_at y.pos y.table y.came) (stuck ys) (missed_at x.pos x.table x.came)
 
-written-more : (xs : List Attempt) (x : Attempt) → all_written (xs ++ x ∷ []) ≡ all_written xs ++ writes_tried x.came
+pub written-more : (xs : List Attempt) (x : Attempt) → all_written (xs ++ x ∷ []) ≡ all_written xs ++ writes_tried x.came
 written-more [] x = append-nil (writes_tried x.came)
 written-more (y ∷ ys) x =
     ap (λ ws. writes_tried y.came ++ ws) (written-more ys x)

@@ -3,12 +3,11 @@
 -- change that a rule passes over, or that the dictionary of that count doesn't accept, writes nothing. At the first miss the
 -- work is stuck, and the changes behind it wait: they count as done, and write nothing. An UNDO takes the last attempt back,
 -- whatever it was. This project's own.
-use Rattle.std.specs.Prelude.{ℕ, ◌≡◌, List, [], ◌∷◌, ◌++◌, length, ◌||◌, if◌then◌else◌, Option, Some, None, is_some, Result, Ok, Err}
-use Rattle.std.specs.BTreeMap.{insert_entry}
+use Rattle.std.specs.Prelude.{ℕ, ◌≡◌, List, [], ◌∷◌, ◌++◌, map, length, ◌||◌, if◌then◌else◌, Option, Some, None, is_some, Result, Ok, Err}
 use Rattle.std.specs.Option.{option_or}
 use Rattle.rl_value.specs.declared.pos.Pos.{Pos}
 use Rattle.rl_value.specs.declared.miss.Miss.{Miss}
-use Rattle.rl_value.specs.Order.{key_cmp, key_set}
+use Rattle.rl_value.specs.Order.{key_set}
 use Rattle.redo_vec.specs.declared.change.Change.{Change}
 use Rattle.redo_vec.specs.declared.table.TableRow.{TableRow}
 use Rattle.redo_spec.specs.ChangeForm.{change_fault}
@@ -19,10 +18,10 @@ use Rattle.redo_spec.specs.Survivors.{after_undo}
 use Rattle.redo_spec.specs.Tables.{Tables, definitions_of}
 use Rattle.redo_spec.specs.Effect.{effect}
 use Rattle.redo_spec.specs.Fold.{Missed}
-use Rattle.redo_spec.specs.Work.{Written, Done, writes_of}
+use Rattle.redo_spec.specs.Work.{Done, writes_of}
 use Rattle.row_apply.specs.declared.writes.Write.{Write}
-use Rattle.row_apply.specs.Overlaid.{overlaid, written_key}
-use Rattle.row_apply.specs.Written.{writes_in}
+use Rattle.row_apply.specs.Overlaid.{overlaid}
+use Rattle.row_apply.specs.Written.{writes_in, put_writes}
 
 -- what came of a change: it wrote, was passed over, missed, or waits behind a miss
 pub data Tried : Type 0 where
@@ -39,11 +38,6 @@ pub record Attempt : Type 0 where
   pub came : Tried
 
 -- ---- what attempts have written
-
--- what was written last under each row key, in rising order of the keys
-abbrev pub put_writes : List Written → List Write → List Written
-put_writes last [] = last
-put_writes last (w ∷ ws) = put_writes (insert_entry key_cmp last (written_key w) w.row) ws
 
 abbrev pub writes_tried : Tried → List Write
 writes_tried (Wrote ws) = ws
@@ -94,14 +88,13 @@ abbrev pub tried_unless : Option Missed → Tried → Tried
 tried_unless None came = came
 tried_unless (Some missed) came = Waits
 
+abbrev pub attempt_of : ℕ → Placed → Tried → Attempt
+attempt_of n p came = record { pos = p.0; table = p.1.table; n = n; came = came }
+
 -- one attempt more, at this count and over its tables
 abbrev pub next_attempt : List TableRow → List Skip → ℕ → Tables → List Attempt → Placed → Attempt
-next_attempt rows skips n base attempts p = record {
-  pos = p.0;
-  table = p.1.table;
-  n = n;
-  came = tried_unless (stuck attempts) (tried rows skips n base (writes attempts) p);
-}
+next_attempt rows skips n base attempts p =
+    attempt_of n p (tried_unless (stuck attempts) (tried rows skips n base (writes attempts) p))
 
 abbrev pub attempted : List TableRow → List Skip → ℕ → Tables → List Attempt → Placed → List Attempt
 attempted rows skips n base attempts p = attempts ++ next_attempt rows skips n base attempts p ∷ []
@@ -115,6 +108,22 @@ attempted_all rows skips n base attempts (p ∷ ps) =
 -- the attempts after an UNDO
 abbrev pub attempts_undone : List Attempt → List Attempt
 attempts_undone attempts = after_undo attempts
+
+-- which change an attempt is of, and at which count, whatever came of it
+pub record Marked : Type 0 where
+  pub pos : Pos
+  pub table : ℕ
+  pub n : ℕ
+
+abbrev pub mark_of : Attempt → Marked
+mark_of a = record { pos = a.pos; table = a.table; n = a.n }
+
+abbrev pub marks : List Attempt → List Marked
+marks attempts = map mark_of attempts
+
+-- the marks of changes that are tried at one count
+abbrev pub placed_marks : ℕ → List Placed → List Marked
+placed_marks n ps = map (λ (p : Placed). mark_of (attempt_of n p Passed)) ps
 
 -- ---- the work of a transaction
 

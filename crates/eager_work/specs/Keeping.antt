@@ -6,10 +6,11 @@ use Rattle.rl_value.specs.declared.miss.Miss.{Miss}
 use Rattle.redo_spec.specs.Fold.{Missed}
 use Rattle.redo_spec.specs.Work.{Written}
 use Rattle.row_apply.specs.declared.writes.Write.{Write}
+use Rattle.row_apply.specs.Written.{put_writes}
 use Rattle.eager_work.specs.declared.did.Did.{Did}
 use Rattle.eager_work.specs.declared.waiting.Waiting.{Waiting}
 use Rattle.eager_work.specs.declared.waiting.Conflict.{Conflict}
-use Rattle.eager_work.specs.Attempts.{Tried, Wrote, Passed, Missing, Waits, Attempt, put_writes}
+use Rattle.eager_work.specs.Attempts.{Tried, Wrote, Passed, Missing, Waits, Attempt}
 
 -- ---- as attempts
 

@@ -1,2 +1,5 @@
 pub mod Attempts
+pub mod Early
+pub mod Jobs
 pub mod Keeping
+pub mod Trying

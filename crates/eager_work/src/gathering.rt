@@ -1,14 +1,14 @@
 //! The writes of changes gathered: under each row key what was left there last.
-ghost use Rattle.std.specs.Prelude.{◌≡◌, ◌<◌, IfOk, OnOk};
+ghost use Rattle.std.specs.Prelude.{◌≡◌, ◌<◌, [], IfOk, OnOk};
 ghost use Rattle.std.specs.BTreeMap.{insert_entry};
 ghost use Rattle.rl_value.specs.Order.{key_cmp};
 ghost use Rattle.row_apply.specs.Kept.{ArePrimary};
 ghost use Rattle.row_apply.specs.Overlaid.{written_key};
-ghost use Rattle.row_apply.specs.Written.{writes_in};
-ghost use Rattle.eager_work.specs.Attempts.{put_writes};
+ghost use Rattle.row_apply.specs.Written.{writes_in, put_writes};
 ghost use Rattle.eager_work.specs.Keeping.{writes_by, put_dids, put_parts};
 
 use crate::did::Did;
+use crate::left::Left;
 use crate::part::Part;
 use rl_value::{Key, NoMemory, Row};
 use row_apply::{Write, Writes};
@@ -52,12 +52,12 @@ fn put_writes(rows: &mut BTreeMap<Key, Option<Row>>, writes: &[Write]) -> Result
     Ok(())
 }
 
-fn put_wrote(rows: &mut BTreeMap<Key, Option<Row>>, wrote: &Option<Writes>) -> Result<(), NoMemory>
+fn put_wrote(rows: &mut BTreeMap<Key, Option<Row>>, wrote: &Option<Left>) -> Result<(), NoMemory>
     ensures { OnOk result (rows.new.entries ≡ put_writes rows.old.entries (writes_by wrote.now)) }
 {
     match wrote {
         None => Ok(()),
-        Some(writes) => put_writes(rows, writes.items()),
+        Some(left) => put_writes(rows, left.items()),
     }
 }
 
@@ -72,8 +72,8 @@ fn put_dids(rows: &mut BTreeMap<Key, Option<Row>>, dids: &[Did]) -> Result<(), N
     Ok(())
 }
 
-/// Puts the writes of so many of the changes of these parts.
-pub(crate) fn put_parts(
+// Puts the writes of so many of the changes of these parts.
+fn put_parts(
     rows: &mut BTreeMap<Key, Option<Row>>,
     parts: &[Part],
     standing: usize,
@@ -109,8 +109,8 @@ fn moved_writes(alloc: Global, rows: BTreeMap<Key, Option<Row>>) -> Result<Vec<W
     Ok(writes)
 }
 
-/// A write for each row.
-pub(crate) fn writes_of(alloc: Global, rows: BTreeMap<Key, Option<Row>>) -> Result<Writes, NoMemory>
+// A write for each row.
+fn writes_of(alloc: Global, rows: BTreeMap<Key, Option<Row>>) -> Result<Writes, NoMemory>
     requires primary { ArePrimary rows.entries }
     ensures { IfOk result (λ writes. writes ≡ writes_in rows.entries) }
 {
@@ -118,4 +118,13 @@ pub(crate) fn writes_of(alloc: Global, rows: BTreeMap<Key, Option<Row>>) -> Resu
     let _few = rows.len();
     let items = moved_writes(alloc, rows)?;
     Ok(Writes::of(items))
+}
+
+/// The writes of so many of the changes of these parts, gathered.
+pub(crate) fn gathered(alloc: Global, parts: &[Part], standing: usize) -> Result<Writes, NoMemory>
+    ensures { IfOk result (λ writes. writes ≡ writes_in (put_parts [] parts.now standing)) }
+{
+    let mut rows = BTreeMap::new(alloc);
+    put_parts(&mut rows, parts, standing)?;
+    writes_of(alloc, rows)
 }

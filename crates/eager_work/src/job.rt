@@ -1,9 +1,18 @@
 //! A job: a chunk of changes that is to be tried ahead of its commit; and its outcome.
-ghost use Rattle.std.specs.Prelude.{◌≡◌, IfOk};
+ghost use Rattle.std.specs.Prelude.{◌≡◌, ◌++◌, IfOk, IfErr, map};
+ghost use Rattle.redo_spec.specs.Tables.{definitions_of};
+ghost use Rattle.row_apply.specs.Overlaid.{overlaid};
+ghost use Rattle.row_apply.specs.Soundness.{AreSound};
+ghost use Rattle.lcr.specs.Chunks.{placed};
+ghost use Rattle.eager_work.specs.Attempts.{writes, attempted_all, marks, placed_marks};
+ghost use Rattle.eager_work.specs.Jobs.{no_pos, last_from};
 
 use crate::work::Work;
-use lcr::Chunk;
+use lcr::{Chunk, Lcr};
+use redo_dict::Dict;
 use rl_value::{NoMemory, Pos, Xid};
+use row_apply::Rows;
+use skip_guard::Skips;
 
 /// The next changes of a transaction that are to be tried.
 #[derive(Drop)]
@@ -66,5 +75,53 @@ impl Outcome {
             n: self.n,
             after,
         })
+    }
+}
+
+// The position of the last change.
+fn last_of(items: &[Lcr]) -> Pos
+    ensures { result ≡ last_from no_pos (map placed items.now) }
+{
+    let mut last = Pos { rec: 0, vec: 0 };
+    let mut rest = items;
+    while let [lcr, others @ ..] = rest {
+        last = lcr.pos;
+        rest = others;
+    }
+    last
+}
+
+/// Tries the job's changes, in their order, over the base with what the work before them left in place. The dictionary is that
+/// of the base. Where memory wants the job comes back as it was. Where the base, or the base with the work in place, isn't sound,
+/// what comes of a change is not told. It costs what its changes cost; behind an UNDO, or from a snapshot, a walk over the work.
+pub fn run_job<R: Rows>(
+    job: Job,
+    base: &R,
+    n: u64,
+    dict: &Dict,
+    skips: &Skips,
+) -> Result<Outcome, (NoMemory, Job)>
+    requires definitions { definitions_of (R.tables base.now) ≡ dict.now.tables }
+    ensures worked { AreSound (R.tables base.now) → AreSound (overlaid (R.tables base.now) (writes job.before)) →
+        IfOk result (λ o. o.after ≡ attempted_all dict.now.tables skips.now n (R.tables base.now) job.before job.chunk) }
+    ensures marked { IfOk result (λ o. marks o.after ≡ marks job.before ++ placed_marks n job.chunk) }
+    ensures id { IfOk result (λ o. o.id ≡ job.id) }
+    ensures start { IfOk result (λ o. o.start ≡ job.start) }
+    ensures last { IfOk result (λ o. o.last ≡ last_from no_pos job.chunk) }
+    ensures count { IfOk result (λ o. o.n ≡ n) }
+    ensures back { IfErr result (λ refused. refused.1 ≡ job) }
+{
+    let mut job = job;
+    let lcrs = job.chunk.items();
+    let last = last_of(lcrs);
+    match job.before.with_chunk(base, n, dict, skips, lcrs) {
+        Ok(after) => Ok(Outcome {
+            id: job.id,
+            start: job.start,
+            last,
+            n,
+            after,
+        }),
+        Err(NoMemory) => Err((NoMemory, job)),
     }
 }

@@ -6,12 +6,12 @@ mod did;
 mod gathering;
 mod job;
 pub mod laws;
+mod left;
 mod part;
-#[cfg(test)]
-mod tests;
+mod tries;
 mod waiting;
 mod work;
 
 pub use commit::Commit;
-pub use job::{Job, Outcome};
+pub use job::{Job, Outcome, run_job};
 pub use work::Work;

@@ -1,7 +1,8 @@
 //! The changes of one chunk that were done, shared by each work that goes on from them.
 //!
 //! They are never written again: an UNDO only lowers the number of changes that stand.
-ghost use Rattle.std.specs.Prelude.{◌≡◌, IfOk, length, take};
+ghost use Rattle.std.specs.Prelude.{◌≡◌, ◌++◌, ◌∷◌, [], IfOk, OnOk, length, take};
+ghost use Rattle.eager_work.specs.Keeping.{joined};
 
 use crate::did::Did;
 use rl_value::NoMemory;
@@ -65,6 +66,76 @@ impl Part {
             Err(_) => Err(NoMemory),
         }
     }
+}
+
+fn copied_dids(alloc: Global, dids: &[Did]) -> Result<Vec<Did>, NoMemory>
+    ensures equal { IfOk result (λ copies. copies.items ≡ dids.now) }
+{
+    let Ok(mut copies) = Vec::with_capacity(alloc, dids.len()) else {
+        return Err(NoMemory);
+    };
+    for did in dids {
+        let did = did.copy()?;
+        if copies.push(did).is_err() {
+            return Err(NoMemory);
+        }
+    }
+    Ok(copies)
+}
+
+// The first so many changes of the part. All of them are shared, and fewer are copied.
+#[tactic(auto, using(crate::proofs::Undoing::all_taken))]
+fn front_part(alloc: Global, part: &Part, count: usize) -> Result<Part, NoMemory>
+    ensures { IfOk result (λ front. front ≡ take count part.now) }
+{
+    if part.len() <= count {
+        return part.copy();
+    }
+    let dids = copied_dids(alloc, part.front(count))?;
+    Part::of(alloc, dids)
+}
+
+fn push_part(parts: &mut Vec<Part>, part: Part) -> Result<(), NoMemory>
+    ensures { OnOk result (parts.new.items ≡ parts.old.items ++ part ∷ []) }
+{
+    match parts.push(part) {
+        Ok(()) => Ok(()),
+        Err(_) => Err(NoMemory),
+    }
+}
+
+/// The parts of so many of the changes: what an UNDO took back is left out.
+pub(crate) fn settled(alloc: Global, parts: &[Part], standing: usize) -> Result<Vec<Part>, NoMemory>
+    ensures { IfOk result (λ settled. joined settled.items ≡ take standing (joined parts.now)) }
+{
+    let mut settled = Vec::new(alloc);
+    let mut left = standing;
+    for part in parts {
+        if left == 0 {
+            return Ok(settled);
+        }
+        let front = front_part(alloc, part, left)?;
+        push_part(&mut settled, front)?;
+        left = left.saturating_sub(part.len());
+    }
+    Ok(settled)
+}
+
+/// The parts with these changes behind them, if there are any.
+pub(crate) fn with_part(
+    alloc: Global,
+    parts: Vec<Part>,
+    done: Vec<Did>,
+) -> Result<Vec<Part>, NoMemory>
+    ensures { IfOk result (λ after. joined after.items ≡ joined parts.items ++ done.items) }
+{
+    if done.is_empty() {
+        return Ok(parts);
+    }
+    let mut parts = parts;
+    let part = Part::of(alloc, done)?;
+    push_part(&mut parts, part)?;
+    Ok(parts)
 }
 
 /// The same parts.

@@ -1,6 +1,6 @@
-//! An archive over real files, and each stream once.
-use crate::{FileArchive, StdSink, StdSource};
-use rl_ports::{Archive, Sink, Source};
+//! An archive and a spill store over real files, and each stream once.
+use crate::{DirSpill, FileArchive, StdSink, StdSource};
+use rl_ports::{Archive, Sink, Source, Spill};
 use std::fs;
 use std::test::Fail;
 
@@ -59,5 +59,38 @@ fn the_output_takes_bytes(rt: HostRuntime) -> Result<(), Fail> {
     let mut sink = StdSink::new(&rt)?;
     assert!(rt; matches!(sink.write(b"\n"), Ok(1)));
     assert!(rt; matches!(sink.write(b""), Ok(0)));
+    Ok(())
+}
+
+#[test]
+fn chunks_are_files_of_the_folder(rt: HostRuntime) -> Result<(), Fail> {
+    let _ = fs::remove_dir_all(&rt, "spill");
+    let mut spill = DirSpill::new(&rt)?;
+    let mut into = vec![in rt.alloc(); 7u8]?;
+    // Without a folder no chunk is there, and the first one makes it.
+    assert!(rt; spill.get(1, &mut into).is_ok());
+    assert!(rt; into.is_empty());
+    let chunks = [(1, "ab"), (2, ""), (1, "cde"), (u64::MAX, "f"), (10, "g")];
+    for (id, bytes) in chunks {
+        assert!(rt; spill.put(id, bytes.as_bytes()).is_ok(), "of {id}");
+    }
+    // The second time there is nothing to drop.
+    assert!(rt; spill.drop_id(10).is_ok());
+    assert!(rt; spill.drop_id(10).is_ok());
+    let left = [(1, "cde"), (2, ""), (3, ""), (u64::MAX, "f"), (10, "")];
+    for (id, want) in left {
+        assert!(rt; spill.get(id, &mut into).is_ok(), "of {id}");
+        assert!(rt; into.as_slice() == want.as_bytes(), "of {id}");
+    }
+    assert!(rt; spill.clear().is_ok());
+    assert!(rt; spill.get(1, &mut into).is_ok());
+    assert!(rt; into.is_empty());
+    // With a file in the folder's place nothing can be said, and the file stays.
+    fs::remove_dir_all(&rt, "spill")?;
+    fs::write(&rt, "spill", b"".as_slice())?;
+    assert!(rt; spill.put(1, b"a").is_err());
+    assert!(rt; spill.get(1, &mut into).is_err());
+    assert!(rt; spill.clear().is_err());
+    fs::remove_file(&rt, "spill")?;
     Ok(())
 }

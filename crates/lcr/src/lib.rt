@@ -4,9 +4,12 @@
 mod change_record;
 mod chunk;
 mod chunk_form;
-#[cfg(test)]
-mod tests;
+mod fault;
+pub mod laws;
+mod spilled;
 
 pub use change_record::Lcr;
 pub use chunk::Chunk;
 pub use chunk_form::{MAX_CHUNK, is_chunk};
+pub use fault::ChunkFault;
+pub use spilled::{chunk_bytes, read_chunk};

@@ -14,6 +14,3 @@ pub mod worked;
 pub use mined::{Mined, MinedLines};
 pub use miner::Miner;
 pub use sql_text::{contents, sql_redo, sql_undo};
-
-#[cfg(test)]
-mod tests;

@@ -13,6 +13,3 @@ pub use fault::RegFault;
 pub use inspecting::{inspect, look};
 pub use next::Next;
 pub use registry::{LogList, Registry};
-
-#[cfg(test)]
-mod tests;

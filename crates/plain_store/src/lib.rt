@@ -8,8 +8,6 @@ mod fault;
 mod indexing;
 mod plain_rows;
 mod plain_tables;
-#[cfg(test)]
-mod tests;
 mod unique_index;
 mod unique_values;
 mod writing;

@@ -6,8 +6,6 @@ mod laws;
 mod piece;
 mod ring;
 mod slot;
-#[cfg(test)]
-mod tests;
 mod window;
 
 pub use laws::{pieces_are_drawn_in_order, the_window_stands_for_its_records};

@@ -10,8 +10,6 @@ mod live_changes;
 mod plain;
 mod plain_fold;
 mod running;
-#[cfg(test)]
-mod tests;
 
 pub use evaluator::Evaluator;
 pub use fault::TakeFault;

@@ -11,8 +11,6 @@ mod lines;
 mod query;
 mod session;
 mod table_rows;
-#[cfg(test)]
-mod tests;
 pub mod worked;
 
 pub use answer::{Answer, RowLines};

@@ -1,6 +1,6 @@
 //! The rows of one table as a query wants them: how many there are, all of them, or the one of a key.
 //!
-//! To count looks at the rows and copies none; a key costs a look-up. A table that is not there has no row.
+//! The count stands beside the table, and a key costs a look-up. A table that is not there has no row.
 ghost use Rattle.std.specs.Prelude.{◌≡◌, ◌++◌, ◌∷◌, [], IfOk, OnOk, length};
 ghost use Rattle.std.specs.Option.{option_copied};
 ghost use Rattle.redo_spec.specs.Work.{row_at};
@@ -12,17 +12,11 @@ use std::alloc::Global;
 use table_store::Tables;
 
 /// How many rows the table has.
-#[tactic(auto, using(crate::proofs::Finding::rows_are_few))]
+#[tactic(auto, using(crate::proofs::Finding::as_many_rows))]
 pub(crate) fn count_rows(tables: &Tables, table: u32) -> u64
     ensures exact { result ≡ length (rows_in tables.now.tables table) }
 {
-    // No table has more rows than all tables together, so the count stays small.
-    let _all = tables.count();
-    let mut count: u64 = 0;
-    for _row in tables.rows(table) {
-        count += 1;
-    }
-    count
+    tables.count_of(table)
 }
 
 fn push_copy(rows: &mut Vec<Row>, row: &Row) -> Result<(), NoMemory>

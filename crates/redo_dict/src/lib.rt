@@ -7,8 +7,6 @@ mod fault;
 mod row_form;
 mod search;
 mod table_form;
-#[cfg(test)]
-mod tests;
 
 pub use dict::Dict;
 pub use fault::{ChangeFault, DictFault};

@@ -11,8 +11,6 @@ mod open_transactions;
 mod start;
 mod state;
 mod survivors;
-#[cfg(test)]
-mod tests;
 mod touching;
 
 pub use fault::AdmitFault;

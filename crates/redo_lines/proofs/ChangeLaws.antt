@@ -13,12 +13,12 @@ use Rattle.redo_vec.specs.declared.change.Op.TheVariants.{Insert, Update, Delete
 use Rattle.redo_vec.specs.declared.columns.Column.{Column}
 use Rattle.redo_vec.specs.declared.table.TableRow.{TableRow}
 use Rattle.redo_vec.specs.Ranges.{IsValue, AreCells, IsChange}
-use Rattle.redo_lines.specs.Known.{columns_known, column_word, table_word}
+use Rattle.line_fields.specs.Known.{columns_known, column_word, table_word}
 use Rattle.redo_lines.specs.Printing.{cell_word, cell_words, cells_words, op_word, change_words}
 use Rattle.redo_lines.specs.Reading.{Line, items_until, is_new, cell_of_parts, cell_said, cells_said, cells_behind, change_of_cells, change_said}
-use Rattle.redo_lines.proofs.Splitting.{closes, split-joined, closes-joined}
-use Rattle.redo_lines.proofs.FieldLaws.{IsOutside, closes-literal, value_printed, xid_printed, closes-xid}
-use Rattle.redo_lines.proofs.KnownLaws.{table_printed, closes-table, column_printed, closes-column}
+use Rattle.line_fields.proofs.Splitting.{closes, split-joined, closes-joined}
+use Rattle.line_fields.proofs.FieldLaws.{IsOutside, closes-literal, value_printed, xid_printed, closes-xid}
+use Rattle.line_fields.proofs.KnownLaws.{table_printed, closes-table, column_printed, closes-column}
 use Rattle.redo_lines.proofs.ListLaws.{each-append, each-map, each-then, IsRead, items_printed, no_keyword}
 
 -- a space and = stand in no literal outside of quotes

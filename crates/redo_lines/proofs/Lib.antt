@@ -1,14 +1,8 @@
-pub mod Forms
-pub mod Splitting
-pub mod Numbers
-pub mod FieldLaws
-pub mod KnownLaws
 pub mod ListLaws
 pub mod ChangeLaws
 pub mod Uniques
 pub mod TableLaws
 pub mod VectorLaws
-pub mod NumberLaws
 pub mod SaidSteps
 pub mod SaidFields
 pub mod SaidVectors

@@ -5,10 +5,10 @@ use Rattle.std.specs.List.{list_all, AllByRecursion}
 use Rattle.std.proofs.lemmas.Bool.{and_parts}
 use Rattle.std.proofs.lemmas.List.{append-nil}
 use Rattle.rl_value.specs.Order.{same_bytes}
-use Rattle.redo_lines.specs.Fields.{Said}
+use Rattle.line_fields.specs.Fields.{Said}
 use Rattle.redo_lines.specs.Reading.{Line, items_until}
-use Rattle.redo_lines.specs.Words.{split, joined}
-use Rattle.redo_lines.proofs.Splitting.{closes, split-joined}
+use Rattle.line_fields.specs.Words.{split, joined}
+use Rattle.line_fields.proofs.Splitting.{closes, split-joined}
 
 -- ---- facts of each element
 

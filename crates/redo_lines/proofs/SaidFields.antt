@@ -1,6 +1,7 @@
 -- What fields of a line say has a spelling.
-use Rattle.std.proofs.Common.{◌≡◌, ℕ, ◌<◌, ◌≤◌, ◌^◌, true, List, [], ◌∷◌, Option, Some, None, Ok, ap, subst, inl, inr, arith, All}
-use Rattle.std.specs.Prelude.{◌&&◌, nat_le}
+use Rattle.std.proofs.Common.{◌≡◌, ℕ, ◌<◌, ◌≤◌, ◌^◌, Bool, true, false, List, Option, Some, None, Ok, refl, ap, subst, inl, inr, arith, All}
+use Rattle.std.specs.Prelude.{◌&&◌, nat_le, if◌then◌else◌}
+use Rattle.std.specs.Option.{option_and_then}
 use Rattle.std.specs.Str.Parse.{digits_value}
 use Rattle.std.proofs.lemmas.Bool.{and_parts, leb-true}
 use Rattle.std.proofs.lemmas.List.Elements.{All-from_recursion, recursion_from_All}
@@ -15,39 +16,80 @@ use Rattle.rl_text.proofs.Literals.{mag-from_is_number}
 use Rattle.rl_text.proofs.LiteralLaws.{literal-from_value}
 use Rattle.redo_vec.specs.Forms.{is_line30}
 use Rattle.redo_vec.specs.Ranges.{AreBytes, IsValue, IsXid, IsWord}
-use Rattle.redo_lines.specs.declared.fault.LineFault.TheVariants as faults
-use Rattle.redo_lines.specs.Fields.{is_decimal, number_said, xid_of_parts, xid_said, name_of_value, name_said, value_said}
-use Rattle.redo_lines.specs.Words.{split, dot}
-use Rattle.redo_lines.proofs.Forms.{name_fits}
-use Rattle.redo_lines.proofs.SaidSteps.{bind_ok, so_ok, chosen, ok_is}
+use Rattle.line_fields.specs.declared.fault.LineFault.{LineFault}
+use Rattle.line_fields.specs.declared.fault.LineFault.TheVariants as faults
+use Rattle.script_words.specs.Numbers.{is_decimal, number_in}
+use Rattle.script_words.specs.Parts.{before, behind, all_three, xid_named, xid_of_parts, xid_of}
+use Rattle.line_fields.specs.Fields.{number_said, xid_said, name_of_value, name_said, value_said}
+use Rattle.line_fields.proofs.Forms.{name_fits}
+use Rattle.redo_lines.proofs.SaidSteps.{so_ok, chosen, ok_is}
+
+-- what was read
+from_or : {A : Type 0} (o : Option A) (fault : LineFault) (x : A) → or_err o fault ≡ Ok x → o ≡ Some x
+from_or None fault x e = absurd cc
+from_or (Some y) fault x e = ap Some (ok_is y x e)
+
+-- ---- numbers
+
+read_value : (t : Bool) (v n : ℕ) → (if t then Some v else None) ≡ Some n → (t ≡ true) × (v ≡ n)
+read_value true v n e = (refl, cc)
+read_value false v n e = absurd cc
+
+number_in_sound : (most n : ℕ) (word : List ℕ) → number_in 0 most word ≡ Some n → n ≤ most
+unfolding number_in
+number_in_sound most n word e =
+    let v = digits_value 10 word in
+    let s = read_value (is_decimal word && (nat_le 0 v && nat_le v most)) v n e in
+    let limits = and_parts (is_decimal word) (nat_le 0 v && nat_le v most) s.0 in
+    let within : v ≤ most = leb-true v most (and_parts (nat_le 0 v) (nat_le v most) limits.1).1 in
+    subst (λ (k : ℕ). k ≤ most) s.1 within
 
 pub number_sound : (most n : ℕ) (word : List ℕ) → number_said most word ≡ Ok n → n ≤ most
 unfolding number_said
-number_sound most n word e =
-    let s = so_ok (is_decimal word && nat_le (digits_value 10 word) most) faults.Number (digits_value 10 word) n e in
-    subst (λ (k : ℕ). k ≤ most) (ok_is (digits_value 10 word) n s.1) (leb-true _ _ (and_parts _ _ s.0).1)
+number_sound most n word e = number_in_sound most n word (from_or (number_in 0 most word) faults.Number n e)
 
 -- ---- transaction ids
 
-xid_parts_sound : (parts : List (List ℕ)) (x : Xid) → xid_of_parts parts ≡ Ok x → IsXid x
-unfolding xid_of_parts
-xid_parts_sound [] x e = absurd cc
-xid_parts_sound (usn ∷ []) x e = absurd cc
-xid_parts_sound (usn ∷ slot ∷ []) x e = absurd cc
-xid_parts_sound (usn ∷ slot ∷ sqn ∷ []) x e =
-    let a = bind_ok (number_said 65535 usn) _ x e in
-    let b = bind_ok (number_said 65535 slot) _ x a.2 in
-    let c = bind_ok (number_said 4294967295 sqn) _ x b.2 in
-    let usn_fits : a.0 ≤ 65535 = number_sound 65535 a.0 usn a.1 in
-    let slot_fits : b.0 ≤ 65535 = number_sound 65535 b.0 slot b.1 in
-    let sqn_fits : c.0 ≤ 4294967295 = number_sound 4294967295 c.0 sqn c.1 in
-    subst IsXid (ok_is (record { usn = a.0; slot = b.0; sqn = c.0 }) x c.2)
+abbrev held : Xid → Option Xid
+held x = Some x
+
+some_is : (x y : Xid) → held x ≡ held y → x ≡ y
+some_is x y e = cc
+
+three_sound : (u s q : Option ℕ) (x : Xid) → all_three xid_named u s q ≡ Some x → ((n : ℕ) → u ≡ Some n → n ≤ 65535) →
+    ((n : ℕ) → s ≡ Some n → n ≤ 65535) → ((n : ℕ) → q ≡ Some n → n ≤ 4294967295) → IsXid x
+three_sound None s q x e first second third = absurd cc
+three_sound (Some a) None q x e first second third = absurd cc
+three_sound (Some a) (Some b) None x e first second third = absurd cc
+three_sound (Some a) (Some b) (Some c) x e first second third =
+    let usn : a ≤ 65535 = first a refl in
+    let slot : b ≤ 65535 = second b refl in
+    let sqn : c ≤ 4294967295 = third c refl in
+    subst IsXid (some_is (record { usn = a; slot = b; sqn = c }) x e)
     (record { usn = omega arith; slot = omega arith; sqn = omega arith })
-xid_parts_sound (usn ∷ slot ∷ sqn ∷ other ∷ parts) x e = absurd cc
+
+xid_parts_sound : (usn slot : List ℕ) (sqn : Option (List ℕ)) (x : Xid) → xid_of_parts usn slot sqn ≡ Some x → IsXid x
+unfolding xid_of_parts
+xid_parts_sound usn slot None x e = absurd cc
+xid_parts_sound usn slot (Some sqn) x e =
+    three_sound (number_in 0 65535 usn) (number_in 0 65535 slot) (number_in 0 4294967295 sqn) x e
+    (λ n is. number_in_sound 65535 n usn is) (λ n is. number_in_sound 65535 n slot is)
+    (λ n is. number_in_sound 4294967295 n sqn is)
+
+behind_sound : (o : Option (List ℕ)) (f : List ℕ → Option Xid) (x : Xid) → ((r : List ℕ) → f r ≡ Some x → IsXid x) →
+    option_and_then f o ≡ Some x → IsXid x
+behind_sound None f x each e = absurd cc
+behind_sound (Some r) f x each e = each r e
+
+xid_in_sound : (word : List ℕ) (x : Xid) → xid_of word ≡ Some x → IsXid x
+unfolding xid_of
+xid_in_sound word x e =
+    behind_sound (behind 46 word) (λ (r : List ℕ). xid_of_parts (before 46 word) (before 46 r) (behind 46 r)) x
+    (λ r is. xid_parts_sound (before 46 word) (before 46 r) (behind 46 r) x is) e
 
 pub xid_sound : (word : List ℕ) (x : Xid) → xid_said word ≡ Ok x → IsXid x
 unfolding xid_said
-xid_sound word x e = xid_parts_sound (split dot word) x e
+xid_sound word x e = xid_in_sound word x (from_or (xid_of word) faults.Number x e)
 
 -- ---- values
 
@@ -60,14 +102,10 @@ literal_value (Number z) bytes l = record { sfits = mag-from_is_number z l.0 }
 literal_value (Text text) bytes l = (l.0, by_recursion text l.1)
 literal_value (Raw raw) bytes l = (l.0, by_recursion raw l.1)
 
-there : (o : Option Value) (v : Value) → or_err o faults.Literal ≡ Ok v → o ≡ Some v
-there None v e = absurd cc
-there (Some u) v e = ap Some (ok_is u v e)
-
 pub value_sound : (part : List ℕ) (v : Value) → AreBytes part → value_said part ≡ Ok v → IsValue v
 value_sound part v bytes e =
     literal_value v part (literal-from_value part (All-from_recursion (λ b. b < 256) part bytes) v
-    (there (value_of_literal part) v e))
+    (from_or (value_of_literal part) faults.Literal v e))
 
 -- ---- names
 

@@ -4,10 +4,10 @@ use Rattle.std.specs.Prelude.{◌||◌, if◌then◌else◌}
 use Rattle.std.specs.List.{AllByRecursion}
 use Rattle.rl_value.specs.Outcome.{◌>>=◌}
 use Rattle.redo_vec.specs.Ranges.{AreBytes}
-use Rattle.redo_lines.specs.declared.fault.LineFault.{LineFault}
-use Rattle.redo_lines.specs.Fields.{Said, if_so}
+use Rattle.line_fields.specs.declared.fault.LineFault.{LineFault}
+use Rattle.line_fields.specs.Fields.{Said, if_so}
 use Rattle.redo_lines.specs.Reading.{Line, items_until, at_end}
-use Rattle.redo_lines.specs.Words.{inside_after, separates, split_from, split}
+use Rattle.line_fields.specs.Words.{inside_after, separates, split_from, split}
 use Rattle.redo_lines.proofs.ListLaws.{each-append}
 
 -- the value of a step that did not fail

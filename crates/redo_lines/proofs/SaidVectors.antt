@@ -22,12 +22,12 @@ use Rattle.redo_vec.specs.Columns.{are_columns}
 use Rattle.redo_vec.specs.Forms.{are_keys}
 use Rattle.redo_vec.specs.Ranges.{AreBytes, IsValue, AreCells, IsXid, IsChange, IsKind, IsWord, IsColumn, IsTable, IsVector}
 use Rattle.redo_spec.specs.Dictionary.{id_of}
-use Rattle.redo_lines.specs.declared.fault.LineFault.{LineFault}
-use Rattle.redo_lines.specs.declared.fault.LineFault.TheVariants as faults
-use Rattle.redo_lines.specs.Fields.{Said, number_said, xid_said, name_said, value_said}
-use Rattle.redo_lines.specs.Known.{known_after, HaveIds, table_said, table_of_parts, columns_known, column_said, is_numeral}
+use Rattle.line_fields.specs.declared.fault.LineFault.{LineFault}
+use Rattle.line_fields.specs.declared.fault.LineFault.TheVariants as faults
+use Rattle.line_fields.specs.Fields.{Said, number_said, xid_said, name_said, value_said}
+use Rattle.line_fields.specs.Known.{known_after, HaveIds, table_said, table_of_parts, columns_known, column_said, is_numeral}
 use Rattle.redo_lines.specs.Reading.{Line, items_until, is_new, is_key, cell_of_parts, cell_said, cells_if_rising, cells_said, cells_behind, change_of_cells, change_said, nullable_said, size_said, sized_said, kind_said, column_of_parts, column_line_said, columns_behind, key_said, keys_with, keys_behind, names_of_parts, definition_said, of, xid_alone, vector_of_xid, vector_of_words, vector_said, vector_of_line}
-use Rattle.redo_lines.specs.Words.{split, space, dot, colon, equals}
+use Rattle.line_fields.specs.Words.{split, space, dot, colon, equals}
 use Rattle.redo_lines.proofs.ListLaws.{each-append}
 use Rattle.redo_lines.proofs.SaidSteps.{bind_ok, so_ok, passed, held, chosen, said, ok_is, ended, parts_bytes, items_sound}
 use Rattle.redo_lines.proofs.SaidFields.{number_sound, xid_sound, value_sound, name_sound}

@@ -11,15 +11,15 @@ use Rattle.redo_vec.specs.declared.table.TableRow.{TableRow}
 use Rattle.redo_vec.specs.Columns.{is_kind, are_columns}
 use Rattle.redo_vec.specs.Forms.{rises, is_key_columns, are_keys}
 use Rattle.redo_vec.specs.Ranges.{IsKind, IsWord, IsColumn, IsTable}
-use Rattle.redo_lines.specs.Fields.{name_word}
-use Rattle.redo_lines.specs.Known.{column_said, column_word}
+use Rattle.line_fields.specs.Fields.{name_word}
+use Rattle.line_fields.specs.Known.{column_said, column_word}
 use Rattle.redo_lines.specs.Printing.{kind_parts, nullable_parts, column_line, column_lines, key_word, key_words, uniques_words, keys_words, names_word, definition_words}
 use Rattle.redo_lines.specs.Reading.{items_until, never, is_key, nullable_said, size_said, sized_said, kind_said, column_of_parts, column_line_said, columns_behind, key_said, uniques_said, keys_with, keys_behind, names_of_parts, definition_said}
-use Rattle.redo_lines.specs.Words.{split, joined_behind, dot, comma}
-use Rattle.redo_lines.proofs.Splitting.{closes, both_true, split-joined, closes-joined}
-use Rattle.redo_lines.proofs.Numbers.{number_printed}
-use Rattle.redo_lines.proofs.FieldLaws.{IsOutside, closes-decimal, closes-name, name_printed}
-use Rattle.redo_lines.proofs.KnownLaws.{column_printed, closes-column}
+use Rattle.line_fields.specs.Words.{split, joined_behind, dot, comma}
+use Rattle.line_fields.proofs.Splitting.{closes, both_true, split-joined, closes-joined}
+use Rattle.line_fields.proofs.Numbers.{number_printed}
+use Rattle.line_fields.proofs.FieldLaws.{IsOutside, closes-decimal, closes-name, name_printed}
+use Rattle.line_fields.proofs.KnownLaws.{column_printed, closes-column}
 use Rattle.redo_lines.proofs.ListLaws.{each-append, each-map, each-then, IsRead, items_printed, all_printed, no_keyword}
 
 outside_space : IsOutside 32

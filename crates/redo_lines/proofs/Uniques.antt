@@ -2,11 +2,11 @@
 use Rattle.std.proofs.Common.{◌≡◌, ℕ, ◌≤◌, List, [], ◌∷◌, ◌++◌, length, Result, Ok, Err, ap, arith}
 use Rattle.rl_value.specs.Outcome.{◌>>=◌}
 use Rattle.redo_vec.specs.declared.columns.Column.{Column}
-use Rattle.redo_lines.specs.declared.fault.LineFault.{LineFault}
-use Rattle.redo_lines.specs.declared.fault.ReadFault.{ReadFault}
-use Rattle.redo_lines.specs.declared.fault.ReadFault.TheVariants as reads
-use Rattle.redo_lines.specs.Fields.{Said}
-use Rattle.redo_lines.specs.Given.{Gives}
+use Rattle.line_fields.specs.declared.fault.LineFault.{LineFault}
+use Rattle.line_fields.specs.declared.fault.ReadFault.{ReadFault}
+use Rattle.line_fields.specs.declared.fault.ReadFault.TheVariants as reads
+use Rattle.line_fields.specs.Fields.{Said}
+use Rattle.line_fields.specs.Given.{Gives}
 use Rattle.redo_lines.specs.Reading.{Line, items_until, with_front, never, key_said, uniques_said}
 
 abbrev keys_of : List ℕ → Said (List (List ℕ) × Line) → Said (List (List ℕ))

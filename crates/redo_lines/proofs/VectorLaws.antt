@@ -12,12 +12,12 @@ use Rattle.redo_vec.specs.declared.table.TableRow.{TableRow}
 use Rattle.redo_vec.specs.declared.vector.Vector.{Vector}
 use Rattle.redo_vec.specs.declared.vector.Vector.TheVariants as vectors
 use Rattle.redo_vec.specs.Ranges.{IsXid, IsChange, IsVector}
-use Rattle.redo_lines.specs.Known.{columns_known, table_word}
+use Rattle.line_fields.specs.Known.{columns_known, table_word}
 use Rattle.redo_lines.specs.Printing.{cells_words, op_word, vector_words, line_of_vector}
 use Rattle.redo_lines.specs.Reading.{Line, change_said, xid_alone, vector_of_words, vector_said, vector_of_line}
-use Rattle.redo_lines.specs.Words.{split, space}
-use Rattle.redo_lines.proofs.Splitting.{closes, is_line-joined}
-use Rattle.redo_lines.proofs.FieldLaws.{xid_printed, closes-xid}
+use Rattle.line_fields.specs.Words.{split, space}
+use Rattle.line_fields.proofs.Splitting.{closes, is_line-joined}
+use Rattle.line_fields.proofs.FieldLaws.{xid_printed, closes-xid}
 use Rattle.redo_lines.proofs.ListLaws.{split-all}
 use Rattle.redo_lines.proofs.ChangeLaws.{change_read, change_closes}
 use Rattle.redo_lines.proofs.TableLaws.{definition_read, definition_closes}

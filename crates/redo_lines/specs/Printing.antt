@@ -12,9 +12,9 @@ use Rattle.redo_vec.specs.declared.columns.Kind.TheVariants as kinds
 use Rattle.redo_vec.specs.declared.table.TableRow.{TableRow}
 use Rattle.redo_vec.specs.declared.vector.Vector.{Vector}
 use Rattle.redo_vec.specs.declared.vector.Vector.TheVariants as vectors
-use Rattle.redo_lines.specs.Fields.{name_word}
-use Rattle.redo_lines.specs.Known.{table_word, column_word, columns_known}
-use Rattle.redo_lines.specs.Words.{joined, space, dot, comma, colon, equals}
+use Rattle.line_fields.specs.Fields.{name_word}
+use Rattle.line_fields.specs.Known.{table_word, column_word, columns_known}
+use Rattle.line_fields.specs.Words.{joined, space, dot, comma, colon, equals}
 
 -- ---- changes
 

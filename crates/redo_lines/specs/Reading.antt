@@ -20,10 +20,10 @@ use Rattle.redo_vec.specs.declared.vector.Vector.{Vector}
 use Rattle.redo_vec.specs.declared.vector.Vector.TheVariants as vectors
 use Rattle.redo_vec.specs.Forms.{is_key_columns, are_keys}
 use Rattle.redo_vec.specs.Columns.{are_columns}
-use Rattle.redo_lines.specs.declared.fault.LineFault.TheVariants as faults
-use Rattle.redo_lines.specs.Fields.{Said, if_so, number_said, xid_said, name_said, value_said}
-use Rattle.redo_lines.specs.Known.{table_said, columns_known, column_said}
-use Rattle.redo_lines.specs.Words.{split, space, dot, comma, colon, equals}
+use Rattle.line_fields.specs.declared.fault.LineFault.TheVariants as faults
+use Rattle.line_fields.specs.Fields.{Said, if_so, number_said, xid_said, name_said, value_said}
+use Rattle.line_fields.specs.Known.{table_said, columns_known, column_said}
+use Rattle.line_fields.specs.Words.{split, space, dot, comma, colon, equals}
 
 -- the words of a line
 abbrev pub Line : Type 0

@@ -1,19 +1,16 @@
 //! Printing and reading agree: what the crates above may use of it.
 //!
 //! Each function here has an empty body; its clauses are the law.
-ghost use Rattle.std.specs.Prelude.{◌≡◌, ◌≤◌, ◌<◌, ◌^◌, ◌∷◌, [], Ok, List, ℕ, true};
-ghost use Rattle.std.specs.Fmt.{decimal};
-ghost use Rattle.std.specs.List.{list_all};
+ghost use Rattle.std.specs.Prelude.{◌≡◌, ◌≤◌, Ok, List, ℕ, true};
 ghost use Rattle.rl_base.specs.Lines.{is_line};
-ghost use Rattle.rl_value.specs.Text.{is_letter};
 ghost use Rattle.redo_vec.specs.Ranges.{AreBytes, IsVector};
 ghost use Rattle.redo_vec.specs.declared.table.TableRow.{TableRow};
 ghost use Rattle.redo_vec.specs.declared.vector.Vector.{Vector};
-ghost use Rattle.redo_lines.specs.Fields.{number_said};
-ghost use Rattle.redo_lines.specs.Known.{HaveIds, known_after};
+ghost use Rattle.line_fields.specs.Fields.{number_said};
+ghost use Rattle.line_fields.specs.Known.{HaveIds, known_after};
 ghost use Rattle.redo_lines.specs.Printing.{vector_words, line_of_vector};
 ghost use Rattle.redo_lines.specs.Reading.{vector_of_line};
-ghost use Rattle.redo_lines.specs.Words.{split, joined, space};
+ghost use Rattle.line_fields.specs.Words.{split, space};
 
 /// A vector is read from the line that is printed for it, whatever tables are known.
 pub fn a_printed_vector_is_read()
@@ -24,15 +21,6 @@ pub fn a_printed_vector_is_read()
         split space (line_of_vector tables vector) ≡ vector_words tables vector }
     ensures one_line { (tables : List TableRow) (vector : Vector) → IsVector vector →
         is_line (line_of_vector tables vector) ≡ true }
-{}
-
-/// A number is read from its decimal, also behind a keyword on a line of their own.
-pub fn a_printed_number_is_read()
-    ensures read { (most number : ℕ) → number ≤ most → number < 2 ^ 64 → number_said most (decimal number) ≡ Ok number }
-    ensures words { (keyword : List ℕ) (number : ℕ) → list_all is_letter keyword ≡ true → number < 2 ^ 64 →
-        split space (joined space (keyword ∷ decimal number ∷ [])) ≡ keyword ∷ decimal number ∷ [] }
-    ensures one_line { (keyword : List ℕ) (number : ℕ) → list_all is_letter keyword ≡ true → number < 2 ^ 64 →
-        is_line (joined space (keyword ∷ decimal number ∷ [])) ≡ true }
 {}
 
 /// What a line says has a spelling, where the tables that are known have ids of 32 bits, and those known behind it have them too.

@@ -5,10 +5,9 @@ ghost use Rattle.std.specs.Prelude.{◌≡◌, ◌∷◌, ◌++◌, [], IfOk, On
 ghost use Rattle.rl_value.specs.Literal.{xid_text};
 ghost use Rattle.redo_lines.specs.Printing.{vector_words, line_of_vector};
 
-use crate::known::copied;
 use crate::printing_changes::change_words;
 use crate::printing_tables::definition_words;
-use crate::words::{joined, push_part};
+use line_fields::{copied, joined, push_part};
 use redo_vec::{TableRow, Vector};
 use rl_base::Line;
 use rl_text::put_xid;

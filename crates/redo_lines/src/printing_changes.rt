@@ -1,12 +1,11 @@
 //! Prints a change of a row: its cells with the names of their columns.
 ghost use Rattle.std.specs.Prelude.{◌≡◌, ◌≤◌, ◌∷◌, ◌++◌, [], length, IfOk, OnOk, codes, map};
 ghost use Rattle.rl_value.specs.Literal.{literal, xid_text};
-ghost use Rattle.redo_lines.specs.Known.{table_word, columns_known};
+ghost use Rattle.line_fields.specs.Known.{table_word, columns_known};
 ghost use Rattle.redo_lines.specs.Printing.{cell_word, cell_words, cells_words, op_word, change_words};
 
-use crate::known::{column_word, columns_known, table_word};
 use crate::printing::{put_id, put_keyword};
-use crate::words::{joined_two, push_part};
+use line_fields::{column_word, columns_known, joined_two, push_part, table_word};
 use redo_vec::{Change, Column, Op, TableRow};
 use rl_base::Line;
 use rl_text::put_value;

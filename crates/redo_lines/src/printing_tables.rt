@@ -4,15 +4,15 @@ ghost use Rattle.std.specs.Fmt.{decimal};
 ghost use Rattle.rl_value.specs.Literal.{literal};
 ghost use Rattle.rl_value.specs.Text.{is_name};
 ghost use Rattle.redo_vec.specs.Forms.{is_line30};
-ghost use Rattle.redo_lines.specs.Fields.{name_word};
-ghost use Rattle.redo_lines.specs.Known.{column_word};
+ghost use Rattle.line_fields.specs.Fields.{name_word};
+ghost use Rattle.line_fields.specs.Known.{column_word};
 ghost use Rattle.redo_lines.specs.Printing.{kind_parts, nullable_parts, column_line, column_lines, key_word, key_words, uniques_words, keys_words, names_word, definition_words};
 
-use crate::fields::is_name;
-use crate::known::{column_word, copied, decimal_of, few_columns};
 use crate::printing::put_keyword;
 use crate::printing_changes::literal_of;
-use crate::words::{joined, joined_two, push_part};
+use line_fields::{
+    column_word, copied, decimal_of, few_columns, is_name, joined, joined_two, push_part,
+};
 use redo_vec::{Column, KeyColumns, Kind, Line30, TableRow};
 use rl_value::{Bin, Bytes, NoMemory, TxtFault, Value};
 use std::alloc::Global;

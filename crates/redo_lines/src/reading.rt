@@ -3,28 +3,26 @@
 //! What each line says stands in specs/Reading.antt; the first fault from left to right is the one that is told.
 ghost use Rattle.std.specs.Prelude.{◌≡◌, Ok, Err};
 ghost use Rattle.rl_value.specs.declared.xid.Xid.{Xid};
-ghost use Rattle.redo_lines.specs.Given.{Gives};
+ghost use Rattle.line_fields.specs.Given.{Gives};
 ghost use Rattle.redo_lines.specs.Reading.{at_end, xid_alone, vector_of_words, vector_said, vector_of_line};
 
-use crate::fault::{LineFault, ReadFault};
-use crate::fields::xid_of;
 use crate::reading_changes::change_of;
 use crate::reading_tables::definition_of;
-use crate::words::{is_word, split};
+use line_fields::{LineFault, ReadFault, is_word, split, xid_of};
 use redo_vec::{Op, TableRow, Vector};
 use rl_value::{Bytes, Xid};
 use std::alloc::Global;
 
 #[tactic(auto, unfolding(crate::specs::Reading::xid_alone))]
-fn xid_alone(alloc: Global, words: &[Bytes]) -> Result<Xid, ReadFault>
-    ensures { Gives (λ x. x) result (xid_alone words.now) }
+fn xid_alone(words: &[Bytes]) -> Result<Xid, LineFault>
+    ensures { result ≡ xid_alone words.now }
 {
     match words {
-        [] => Err(ReadFault::Line(LineFault::Words)),
+        [] => Err(LineFault::Words),
         [word, others @ ..] => {
-            let xid = xid_of(alloc, word.bytes())?;
+            let xid = xid_of(word.bytes())?;
             if !others.is_empty() {
-                return Err(ReadFault::Line(LineFault::Words));
+                return Err(LineFault::Words);
             }
             Ok(xid)
         }
@@ -51,7 +49,7 @@ pub fn vector_of_words(
     ensures read { Gives (λ x. x) result (vector_of_words tables.now keyword.now words.now) }
 {
     if is_word(keyword, b"START") {
-        return Ok(Vector::Start(xid_alone(alloc, words)?));
+        return Ok(Vector::Start(xid_alone(words)?));
     }
     if is_word(keyword, b"INSERT") {
         return Ok(Vector::Change(change_of(alloc, tables, Op::Insert, words)?));
@@ -63,13 +61,13 @@ pub fn vector_of_words(
         return Ok(Vector::Change(change_of(alloc, tables, Op::Delete, words)?));
     }
     if is_word(keyword, b"UNDO") {
-        return Ok(Vector::Undo(xid_alone(alloc, words)?));
+        return Ok(Vector::Undo(xid_alone(words)?));
     }
     if is_word(keyword, b"COMMIT") {
-        return Ok(Vector::Commit(xid_alone(alloc, words)?));
+        return Ok(Vector::Commit(xid_alone(words)?));
     }
     if is_word(keyword, b"ROLLBACK") {
-        return Ok(Vector::Rollback(xid_alone(alloc, words)?));
+        return Ok(Vector::Rollback(xid_alone(words)?));
     }
     if is_word(keyword, b"TABLE") {
         return Ok(Vector::Table(definition_of(alloc, words)?));

@@ -1,13 +1,12 @@
 //! Reads a change of a row: its transaction, its table, and its cells behind OLD and NEW.
 ghost use Rattle.std.specs.Prelude.{◌≡◌, ◌≤◌, length, Ok, Err, IsTrue, codes};
 ghost use Rattle.rl_value.specs.Text.{are_cells, columns_rise};
-ghost use Rattle.redo_lines.specs.Given.{Gives};
+ghost use Rattle.line_fields.specs.Given.{Gives};
 ghost use Rattle.redo_lines.specs.Reading.{items_until, is_new, at_end, cell_of_parts, cell_said, cells_if_rising, cells_said, cells_behind, change_of_cells, change_said};
 
-use crate::fault::{LineFault, ReadFault};
-use crate::fields::{value_of, xid_of};
-use crate::known::{column_of, columns_known, table_of};
-use crate::words::{is_word, split};
+use line_fields::{
+    LineFault, ReadFault, column_of, columns_known, is_word, split, table_of, value_of, xid_of,
+};
 use redo_vec::{Change, Column, Op, TableRow};
 use rl_value::{Bytes, Cells, MAX_COLUMNS, Value, Xid};
 use std::alloc::Global;
@@ -162,7 +161,7 @@ pub(crate) fn change_of(
 {
     match words {
         [xid, table, others @ ..] => {
-            let xid = xid_of(alloc, xid.bytes())?;
+            let xid = xid_of(xid.bytes())?;
             let table = table_of(alloc, tables, table.bytes())?;
             let columns = columns_known(tables, table);
             change_of_cells(alloc, op, xid, table, columns, others)

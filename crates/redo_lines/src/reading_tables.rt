@@ -4,15 +4,14 @@ ghost use Rattle.std.specs.List.{list_all};
 ghost use Rattle.redo_vec.specs.Columns.{is_kind, are_columns};
 ghost use Rattle.redo_vec.specs.Forms.{rises, is_key_columns, are_keys};
 ghost use Rattle.redo_vec.specs.declared.columns.Kind.{Kind};
-ghost use Rattle.redo_lines.specs.Given.{Gives};
+ghost use Rattle.line_fields.specs.Given.{Gives};
 ghost use Rattle.redo_lines.specs.Reading.{items_until, never, is_key, nullable_said, size_said, sized_said, kind_said, column_of_parts, column_line_said, columns_behind, with_front, key_said, uniques_said, keys_with, keys_behind, names_of_parts, definition_said};
-ghost use Rattle.redo_lines.specs.Known.{column_said};
-ghost use Rattle.redo_lines.specs.Words.{split, dot};
+ghost use Rattle.line_fields.specs.Known.{column_said};
+ghost use Rattle.line_fields.specs.Words.{split, dot};
 
-use crate::fault::{LineFault, ReadFault};
-use crate::fields::{name_of, number_of, u32_of};
-use crate::known::{column_of, few_columns};
-use crate::words::{is_word, split};
+use line_fields::{
+    LineFault, ReadFault, column_of, few_columns, is_word, name_of, number_of, split, u32_of,
+};
 use redo_vec::{Column, Columns, KeyColumns, KeyLists, Kind, Line30, TableRow};
 use rl_value::{Bytes, MAX_COLUMNS};
 use std::alloc::Global;

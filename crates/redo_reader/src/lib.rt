@@ -12,6 +12,3 @@ mod read_side;
 pub use cut::{Cut, CutError};
 pub use place::Place;
 pub use read_side::ReadSide;
-
-#[cfg(test)]
-mod tests;

@@ -10,4 +10,5 @@ pub mod MarkHistories
 pub mod MarkRanges
 pub mod MarkLaws
 pub mod LogLaws
+pub mod FieldLaws
 pub mod LogSound

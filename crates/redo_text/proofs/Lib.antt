@@ -5,3 +5,4 @@ pub mod TextLaws
 pub mod SaidText
 pub mod Framed
 pub mod StreamTexts
+pub mod StreamEnds

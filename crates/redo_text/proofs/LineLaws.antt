@@ -7,11 +7,11 @@ use Rattle.rl_value.specs.Text.{is_letter}
 use Rattle.redo_vec.specs.declared.table.TableRow.{TableRow}
 use Rattle.redo_vec.specs.declared.vector.Vector.{Vector}
 use Rattle.redo_vec.specs.Ranges.{AreBytes, IsVector}
-use Rattle.redo_lines.specs.Fields.{number_said}
-use Rattle.redo_lines.specs.Known.{HaveIds, known_after}
+use Rattle.line_fields.specs.Fields.{number_said}
+use Rattle.line_fields.specs.Known.{HaveIds, known_after}
 use Rattle.redo_lines.specs.Printing.{vector_words, line_of_vector}
 use Rattle.redo_lines.specs.Reading.{vector_of_line}
-use Rattle.redo_lines.specs.Words.{split, joined, space}
+use Rattle.line_fields.specs.Words.{split, joined, space}
 
 -- `a_printed_vector_is_read`
 pub record VectorsRead : Type 0 where

@@ -15,18 +15,18 @@ use Rattle.redo_vec.specs.Ranges.{AreBytes, IsVector, IsRecord}
 use Rattle.redo_vec.specs.Spelling.{vector}
 use Rattle.redo_spec.specs.declared.header.Header.{Header}
 use Rattle.redo_spec.specs.Log.{Log, IsHeader, IsLog, IsSpelled, log_bytes}
-use Rattle.redo_lines.specs.declared.fault.LineFault.TheVariants as faults
+use Rattle.line_fields.specs.declared.fault.LineFault.TheVariants as faults
 use Rattle.redo_text.specs.declared.fault.WriteFault.{WriteFault}
 use Rattle.redo_text.specs.declared.heading.Heading.{Heading}
 use Rattle.redo_text.specs.declared.heading.Begun.{Begun}
 use Rattle.redo_text.specs.Draft.{Draft, beginning, add_record, size_of, with_record, closed_at, closed, with_vector, record_line, other_line, line_of_words, says_nothing, line_taken, finished_at, finished}
-use Rattle.redo_lines.specs.Fields.{Said, number_said}
+use Rattle.line_fields.specs.Fields.{Said, number_said}
 use Rattle.redo_text.specs.Heading.{most32, most64, number_alone, given_once, heading_line, behind_log, heading_said, is_heading_word, number_or, scn_after, scn_said, greater, begun_after, next_of, number_there, header_said}
 use Rattle.redo_text.specs.Given.{Tells}
-use Rattle.redo_lines.specs.Known.{HaveIds, known_after}
+use Rattle.line_fields.specs.Known.{HaveIds, known_after}
 use Rattle.redo_lines.specs.Reading.{Line, vector_of_words, vector_said}
 use Rattle.redo_text.specs.Text.{Bad, at_line, last_line, text_from, log_of, log_said}
-use Rattle.redo_lines.specs.Words.{split, space}
+use Rattle.line_fields.specs.Words.{split, space}
 use Rattle.redo_lines.proofs.ListLaws.{each-append}
 use Rattle.redo_lines.proofs.SaidSteps.{bind_ok, passed, chosen, said, ok_is, ended}
 use Rattle.redo_text.proofs.LineLaws.{Fitting}

@@ -11,14 +11,14 @@ use Rattle.redo_vec.specs.declared.vector.Vector.{Vector}
 use Rattle.redo_vec.specs.Spelling.{vector, record_bytes}
 use Rattle.redo_spec.specs.declared.header.Header.{Header}
 use Rattle.redo_spec.specs.Log.{log_bytes, header_bytes}
-use Rattle.redo_lines.specs.declared.fault.LineFault.TheVariants as faults
+use Rattle.line_fields.specs.declared.fault.LineFault.TheVariants as faults
 use Rattle.redo_text.specs.declared.heading.Begun.{Begun}
-use Rattle.redo_lines.specs.Fields.{Said}
+use Rattle.line_fields.specs.Fields.{Said}
 use Rattle.redo_text.specs.Heading.{heading_said, is_heading_word, scn_said, begun_after, number_there, header_said}
 use Rattle.redo_text.specs.Draft.{Draft, beginning, add_record, add_bytes, size_of, with_record, closed_at, closed, with_vector, record_line, other_line, line_of_words, says_nothing, line_taken, finished_at, finished}
 use Rattle.redo_lines.specs.Reading.{Line, vector_of_words}
 use Rattle.redo_text.specs.Text.{Bad, at_line, last_line, text_from, log_of, log_said, bytes_said}
-use Rattle.redo_lines.specs.Words.{split, space}
+use Rattle.line_fields.specs.Words.{split, space}
 
 -- the same draft, with the spelling of its records
 abbrev pub spelled_of : Draft (List RedoRec) → Draft (List ℕ)

@@ -28,14 +28,14 @@ use Rattle.redo_text.specs.Streaming.{Place, Shown, shown_at, raw_text, raw_afte
 
 -- ---- records behind others
 
-abbrev read_of : Raw → Result RedoRec Fault
+abbrev pub read_of : Raw → Result RedoRec Fault
 read_of raw = record_at raw.bytes
 
 ended_text : (p : Place) (raws : List Raw) → p.ended ≡ true → raws_text p raws ≡ []
 ended_text p [] e = refl
 ended_text p (raw ∷ raws) e = rw e refl
 
-ended_after : (p : Place) (raws : List Raw) → p.ended ≡ true → raws_after p raws ≡ p
+pub ended_after : (p : Place) (raws : List Raw) → p.ended ≡ true → raws_after p raws ≡ p
 ended_after p [] e = refl
 ended_after p (raw ∷ raws) e = rw e refl
 
@@ -52,7 +52,7 @@ text_on : (p : Place) (raw : Raw) (raws : List Raw) → p.ended ≡ false →
     raws_text p (raw ∷ raws) ≡ raw_text p raw (read_of raw) ++ raws_text (raw_after p raw (read_of raw)) raws
 text_on p raw raws e = other p.ended [] (raw_text p raw (read_of raw) ++ raws_text (raw_after p raw (read_of raw)) raws) e
 
-after_on : (p : Place) (raw : Raw) (raws : List Raw) → p.ended ≡ false →
+pub after_on : (p : Place) (raw : Raw) (raws : List Raw) → p.ended ≡ false →
     raws_after p (raw ∷ raws) ≡ raws_after (raw_after p raw (read_of raw)) raws
 after_on p raw raws e = other p.ended p (raws_after (raw_after p raw (read_of raw)) raws) e
 
@@ -84,7 +84,7 @@ after_by true p raw a b e later =
 after_by false p raw a b e later =
     after_on p raw (a ++ b) e ∙ later ∙ ap (λ (q : Place). raws_after q b) (sym (after_on p raw a e))
 
-after_append : (p : Place) (a b : List Raw) → raws_after p (a ++ b) ≡ raws_after (raws_after p a) b
+pub after_append : (p : Place) (a b : List Raw) → raws_after p (a ++ b) ≡ raws_after (raws_after p a) b
 after_append p [] b = refl
 after_append p (raw ∷ a) b = after_by p.ended p raw a b refl (after_append (raw_after p raw (read_of raw)) a b)
 
@@ -144,7 +144,7 @@ ended_silent s pieces e =
     run_text s pieces ∙ ended_texts s.place (run_of s.stream pieces).raws
     (option_or (run_of s.stream pieces).cause (end_fault (run_of s.stream pieces).stream)) e
 
-or_none : (o : Option CutFault) → option_or o None ≡ o
+pub or_none : (o : Option CutFault) → option_or o None ≡ o
 or_none None = refl
 or_none (Some fault) = refl
 
@@ -275,7 +275,7 @@ cut_first r rest ok =
 abbrev pub SpelledIsRead : Type 0
 SpelledIsRead = (r : RedoRec) → IsRecord r → record_at (record_bytes r) ≡ Ok r
 
-abbrev entries_with : Header → List RedoRec → Records
+abbrev pub entries_with : Header → List RedoRec → Records
 entries_with h rs = record { entries = map (λ r. (h, r)) rs; cause = None }
 
 records_read : SpelledIsRead → (h : Header) (rs : List RedoRec) → AllByRecursion IsRecord rs →
@@ -298,17 +298,26 @@ PiecesRead = (h : Header) (rec at done : ℕ) (pieces : List (List ℕ)) → don
     ≡ records_of_raws (run_of (stream_at h rec at done) pieces).raws
     (option_or (run_of (stream_at h rec at done) pieces).cause (end_fault (run_of (stream_at h rec at done) pieces).stream))
 
+-- what a run of pieces gives, decoded up to the first fault
+abbrev pub run_records : Header → List (List ℕ) → Records
+run_records h pieces =
+    let r = run_of (stream_at h 1 40 0) pieces in records_of_raws r.raws (option_or r.cause (end_fault r.stream))
+
+pub spelled_run : SpelledIsRead → PiecesRead → (l : Log) (pieces : List (List ℕ)) → IsLog l →
+    concat pieces ≡ flat_map record_bytes l.records → run_records l.head pieces ≡ entries_with l.head l.records
+spelled_run read cut l pieces ok whole =
+    let h = l.head in
+    let many : h.count - 0 ≡ length l.records = omega (arith, ok.counted) in
+    sym (cut h 1 40 0 pieces (omega arith)) ∙ ap (records_in h (h.count - 0)) whole
+    ∙ ap (λ (k : ℕ). records_in h k (flat_map record_bytes l.records)) many ∙ records_read read h l.records ok.each
+
 pub log_shown : SpelledIsRead → PiecesRead → (l : Log) (pieces : List (List ℕ)) → IsLog l →
     concat pieces ≡ flat_map record_bytes l.records → pieces_text (shown_at l.head) pieces ≡ records_text [] l.records
 log_shown read cut l pieces ok whole =
     let h = l.head in
     let r = run_of (stream_at h 1 40 0) pieces in
-    let cause = option_or r.cause (end_fault r.stream) in
-    let many : h.count - 0 ≡ length l.records = omega (arith, ok.counted) in
-    let is : records_of_raws r.raws cause ≡ entries_with h l.records =
-    sym (cut h 1 40 0 pieces (omega arith)) ∙ ap (records_in h (h.count - 0)) whole
-    ∙ ap (λ (k : ℕ). records_in h k (flat_map record_bytes l.records)) many ∙ records_read read h l.records ok.each in
+    let is = spelled_run read cut l pieces ok whole in
     run_text (shown_at h) pieces
-    ∙ decoded_text (shown_at h).place r.raws cause refl (ap (λ (x : Records). x.cause) is)
+    ∙ decoded_text (shown_at h).place r.raws (option_or r.cause (end_fault r.stream)) refl (ap (λ (x : Records). x.cause) is)
     ∙ ap (λ (x : Records). records_text [] (records_of_entries x.entries)) is
     ∙ ap (records_text []) (records_again h l.records)

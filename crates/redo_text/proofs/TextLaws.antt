@@ -21,14 +21,14 @@ use Rattle.redo_spec.specs.Log.{Log, IsHeader, IsLog}
 use Rattle.redo_text.specs.declared.heading.Heading.{Heading}
 use Rattle.redo_text.specs.declared.heading.Begun.{Begun}
 use Rattle.redo_text.specs.Draft.{Draft, add_record, size_of, closed, with_vector, record_line, other_line, line_of_words, says_nothing, line_taken, finished}
-use Rattle.redo_lines.specs.Fields.{Said}
+use Rattle.line_fields.specs.Fields.{Said}
 use Rattle.redo_text.specs.Heading.{no_heading, most32, most64, number_alone, given_once, heading_line, heading_said, scn_said, greater, begun_after, header_said}
-use Rattle.redo_lines.specs.Known.{known_after}
+use Rattle.line_fields.specs.Known.{known_after}
 use Rattle.redo_lines.specs.Printing.{op_word, vector_words, line_of_vector}
 use Rattle.redo_lines.specs.Reading.{Line, vector_said}
 use Rattle.redo_text.specs.Showing.{with_end, number_line, heading_text, vectors_text, known_behind, record_text, records_text, text_of_log}
 use Rattle.redo_text.specs.Text.{Bad, at_line, text_from, log_of, log_said}
-use Rattle.redo_lines.specs.Words.{split, space}
+use Rattle.line_fields.specs.Words.{split, space}
 use Rattle.redo_text.proofs.LineLaws.{VectorsRead, NumbersRead}
 
 abbrev Records : Type 0

@@ -9,14 +9,14 @@ use Rattle.redo_vec.specs.declared.table.TableRow.{TableRow}
 use Rattle.redo_vec.specs.declared.vector.Vector.{Vector}
 use Rattle.redo_vec.specs.Spelling.{vector, record_bytes}
 use Rattle.redo_spec.specs.declared.header.Header.{Header}
-use Rattle.redo_lines.specs.declared.fault.LineFault.TheVariants as faults
+use Rattle.line_fields.specs.declared.fault.LineFault.TheVariants as faults
 use Rattle.redo_text.specs.declared.heading.Heading.{Heading}
 use Rattle.redo_text.specs.declared.heading.Begun.{Begun}
-use Rattle.redo_lines.specs.Fields.{Said}
+use Rattle.line_fields.specs.Fields.{Said}
 use Rattle.redo_text.specs.Heading.{no_heading, heading_said, is_heading_word, scn_said, begun_after, number_there, header_said}
-use Rattle.redo_lines.specs.Known.{known_after}
+use Rattle.line_fields.specs.Known.{known_after}
 use Rattle.redo_lines.specs.Reading.{Line, vector_of_words}
-use Rattle.redo_lines.specs.Words.{split, space}
+use Rattle.line_fields.specs.Words.{split, space}
 
 -- the heading, how far the records have come, the tables that are known, the vectors of the last record, and what was made of
 -- the records before it

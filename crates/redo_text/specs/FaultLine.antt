@@ -10,7 +10,7 @@ use Rattle.redo_spec.specs.Lines.{head_word, cut_word, vec_word}
 use Rattle.redo_text.specs.declared.fault_line.LogFault.{LogFault}
 use Rattle.redo_text.specs.declared.fault_line.LogFault.TheVariants as faults
 use Rattle.redo_text.specs.Showing.{with_end}
-use Rattle.redo_lines.specs.Words.{joined, space}
+use Rattle.line_fields.specs.Words.{joined, space}
 
 abbrev pub fault_words : LogFault → List (List ℕ)
 fault_words (faults.Head f) = codes "HEADER" ∷ head_word f ∷ []

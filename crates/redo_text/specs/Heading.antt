@@ -5,10 +5,10 @@ use Rattle.std.specs.Prelude.{ℕ, ◌+◌, List, [], ◌∷◌, Bool, ◌==◌,
 use Rattle.rl_value.specs.Order.{same_bytes}
 use Rattle.rl_value.specs.Outcome.{◌>>=◌}
 use Rattle.redo_spec.specs.declared.header.Header.{Header}
-use Rattle.redo_lines.specs.declared.fault.LineFault.TheVariants as faults
+use Rattle.line_fields.specs.declared.fault.LineFault.TheVariants as faults
 use Rattle.redo_text.specs.declared.heading.Heading.{Heading}
 use Rattle.redo_text.specs.declared.heading.Begun.{Begun}
-use Rattle.redo_lines.specs.Fields.{Said, number_said}
+use Rattle.line_fields.specs.Fields.{Said, number_said}
 use Rattle.redo_lines.specs.Reading.{Line, at_end}
 
 -- the greatest number of 32 bits, and of 64

@@ -6,9 +6,9 @@ use Rattle.redo_vec.specs.declared.table.TableRow.{TableRow}
 use Rattle.redo_vec.specs.declared.vector.Vector.{Vector}
 use Rattle.redo_spec.specs.declared.header.Header.{Header}
 use Rattle.redo_spec.specs.Log.{Log}
-use Rattle.redo_lines.specs.Known.{known_after}
+use Rattle.line_fields.specs.Known.{known_after}
 use Rattle.redo_lines.specs.Printing.{line_of_vector}
-use Rattle.redo_lines.specs.Words.{joined, space}
+use Rattle.line_fields.specs.Words.{joined, space}
 
 -- a line as it is written
 abbrev pub with_end : List ℕ → List ℕ

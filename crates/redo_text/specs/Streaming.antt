@@ -89,7 +89,16 @@ piece_after s piece =
 abbrev pub end_text : Shown → List ℕ
 end_text s = cut_text s.place (end_fault s.stream)
 
+-- whether a fault is shown there, or was before
+abbrev pub end_ended : Shown → Bool
+end_ended s = (cut_after s.place (end_fault s.stream)).ended
+
 -- the text of a log that comes in these pieces, behind its header's lines
 abbrev pub pieces_text : Shown → List (List ℕ) → List ℕ
 pieces_text s [] = end_text s
 pieces_text s (piece ∷ pieces) = piece_text s piece ++ pieces_text (piece_after s piece) pieces
+
+-- whether a fault is shown of it
+abbrev pub pieces_ended : Shown → List (List ℕ) → Bool
+pieces_ended s [] = end_ended s
+pieces_ended s (piece ∷ pieces) = pieces_ended (piece_after s piece) pieces

@@ -6,8 +6,8 @@ use Rattle.rl_value.specs.Outcome.{◌>>=◌, map_ok, map_err}
 use Rattle.redo_vec.specs.declared.redo_rec.RedoRec.{RedoRec}
 use Rattle.redo_spec.specs.declared.header.Header.{Header}
 use Rattle.redo_spec.specs.Log.{Log, header_bytes}
-use Rattle.redo_lines.specs.declared.fault.LineFault.{LineFault}
-use Rattle.redo_lines.specs.Fields.{Said}
+use Rattle.line_fields.specs.declared.fault.LineFault.{LineFault}
+use Rattle.line_fields.specs.Fields.{Said}
 use Rattle.redo_text.specs.Draft.{Draft, beginning, line_taken, finished, add_record, add_bytes}
 
 -- the first bad line, and why it is bad

@@ -5,7 +5,7 @@ ghost use Rattle.std.specs.Prelude.{◌≡◌, ◌≤◌, ◌+◌, ◌++◌, ◌
 ghost use Rattle.std.specs.List.{flat_map};
 ghost use Rattle.redo_vec.specs.Spelling.{be16, be32, be64, vector, record_bytes};
 ghost use Rattle.redo_spec.specs.Log.{header_bytes};
-ghost use Rattle.redo_lines.specs.Given.{Gives};
+ghost use Rattle.line_fields.specs.Given.{Gives};
 ghost use Rattle.redo_text.specs.Draft.{beginning, add_bytes, size_of, with_record, closed, with_vector, record_line, other_line, line_of_words, says_nothing, line_taken, finished};
 
 use crate::heading::{

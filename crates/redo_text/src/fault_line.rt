@@ -1,9 +1,9 @@
 //! The line that is shown where a log cannot be read on (specs/FaultLine.antt).
 ghost use Rattle.std.specs.Prelude.{◌≡◌, ◌≤◌, ◌∷◌, ◌++◌, [], length, IfOk, OnOk, codes};
 ghost use Rattle.std.specs.Fmt.{decimal};
-ghost use Rattle.redo_spec.specs.Lines as lines;
 ghost use Rattle.redo_text.specs.FaultLine.{fault_words, bytes_words, fault_line};
 
+use redo_faults::{cut_word, head_word, vector_word};
 use redo_lines::{decimal_of, joined, push_bytes, push_part, put_keyword, raw_literal};
 use rl_value::{Bytes, CutFault, HeadFault, NoMemory, VecFault};
 use std::alloc::Global;
@@ -17,47 +17,6 @@ pub enum LogFault {
     Cut(CutFault),
     /// The record does not decode.
     Vector(VecFault),
-}
-
-fn head_word(fault: HeadFault) -> &'static [u8]
-    ensures { result.now ≡ lines.head_word fault }
-{
-    match fault {
-        HeadFault::Short => b"SHORT",
-        HeadFault::Magic => b"MAGIC",
-        HeadFault::Version => b"VERSION",
-        HeadFault::Thread => b"THREAD",
-        HeadFault::Sequence => b"SEQUENCE",
-        HeadFault::Range => b"RANGE",
-        HeadFault::Records => b"RECORDS",
-        HeadFault::Reserved => b"RESERVED",
-        HeadFault::Dbid => b"DBID",
-    }
-}
-
-fn cut_word(fault: CutFault) -> &'static [u8]
-    ensures { result.now ≡ lines.cut_word fault }
-{
-    match fault {
-        CutFault::Length => b"LENGTH",
-        CutFault::Count => b"COUNT",
-        CutFault::Truncated => b"TRUNCATED",
-        CutFault::Trailing => b"TRAILING",
-    }
-}
-
-fn vector_word(fault: VecFault) -> &'static [u8]
-    ensures { result.now ≡ lines.vec_word fault }
-{
-    match fault {
-        VecFault::Kind => b"KIND",
-        VecFault::Tag => b"TAG",
-        VecFault::Cells => b"CELLS",
-        VecFault::Utf8 => b"UTF8",
-        VecFault::Empty => b"EMPTY",
-        VecFault::Size => b"SIZE",
-        VecFault::End => b"END",
-    }
 }
 
 fn put_fault(alloc: Global, words: &mut Vec<Bytes>, fault: LogFault) -> Result<(), NoMemory>

@@ -1,12 +1,13 @@
 //! Printing and reading agree: what the crates above may use of it.
 //!
 //! Each function here only calls the laws that its own follows from; its clauses are the law.
-ghost use Rattle.std.specs.Prelude.{◌≡◌, ◌≤◌, ◌∷◌, ◌++◌, [], true, Ok, List, ℕ, length};
+ghost use Rattle.std.specs.Prelude.{◌≡◌, ◌≤◌, ◌∷◌, ◌++◌, [], true, false, Ok, List, ℕ, length, is_some};
 ghost use Rattle.std.specs.List.{flat_map, concat};
 ghost use Rattle.redo_spec.specs.declared.header.Header.{Header};
 ghost use Rattle.redo_vec.specs.Ranges.{AreBytes};
 ghost use Rattle.redo_vec.specs.Spelling.{record_bytes};
-ghost use Rattle.redo_text.specs.Streaming.{Shown, shown_at, pieces_text};
+ghost use Rattle.redo_spec.specs.Redo.{records_in};
+ghost use Rattle.redo_text.specs.Streaming.{Shown, shown_at, pieces_text, pieces_ended};
 ghost use Rattle.redo_spec.specs.Log.{Log, IsLog};
 ghost use Rattle.redo_text.specs.Showing.{text_of_log, records_text};
 ghost use Rattle.redo_text.specs.Text.{log_said};
@@ -40,10 +41,24 @@ pub fn pieces_are_shown_as_one()
     pieces_do_not_matter();
 }
 
-/// A log that has a spelling is shown, from its bytes behind the header, as the text that says its records.
+/// A fault is shown of a log exactly where its records, cut off and decoded, end with one; in which pieces it comes is no matter.
+pub fn a_fault_is_shown_where_there_is_one()
+    ensures exact { (head : Header) (pieces : List (List ℕ)) →
+        pieces_ended (shown_at head) pieces ≡ is_some (records_in head head.count (concat pieces)).cause }
+    ensures two { (log : Shown) (a b : List ℕ) → pieces_ended log ((a ++ b) ∷ []) ≡ pieces_ended log (a ∷ b ∷ []) }
+    // A fault that was shown is not taken back.
+    ensures kept { (log : Shown) (pieces : List (List ℕ)) → log.place.ended ≡ true → pieces_ended log pieces ≡ true }
+{
+    pieces_do_not_matter();
+    pieces_give_the_records();
+}
+
+/// A log that has a spelling is shown, from its bytes behind the header, as the text that says its records, and without a fault.
 pub fn a_spelled_log_is_shown()
     ensures shown { (log : Log) (pieces : List (List ℕ)) → IsLog log → concat pieces ≡ flat_map record_bytes log.records →
         pieces_text (shown_at log.head) pieces ≡ records_text [] log.records }
+    ensures whole { (log : Log) (pieces : List (List ℕ)) → IsLog log → concat pieces ≡ flat_map record_bytes log.records →
+        pieces_ended (shown_at log.head) pieces ≡ false }
 {
     a_spelled_record_is_read();
     pieces_give_the_records();

@@ -3,7 +3,7 @@
 //! What is printed of a log as a whole is written as the same log (`a_shown_log_is_said`).
 ghost use Rattle.std.specs.Prelude.{◌≡◌, ◌++◌, ◌∷◌, [], IfOk, OnOk, codes};
 ghost use Rattle.std.specs.Fmt.{decimal};
-ghost use Rattle.redo_lines.specs.Known.{known_after};
+ghost use Rattle.line_fields.specs.Known.{known_after};
 ghost use Rattle.redo_lines.specs.Printing.{line_of_vector};
 ghost use Rattle.redo_text.specs.Showing.{with_end, number_line, heading_text, vectors_text, known_behind, record_text};
 

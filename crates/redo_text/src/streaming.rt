@@ -6,7 +6,7 @@ ghost use Rattle.std.specs.List.{AllByRecursion};
 ghost use Rattle.redo_vec.specs.Cutting.{first_record};
 ghost use Rattle.redo_vec.specs.Reading.{record_at};
 ghost use Rattle.redo_wire.specs.Stream.{cut_of_piece, stream_after, end_fault};
-ghost use Rattle.redo_text.specs.Streaming.{capped, fault_bytes, raw_text, raw_after, raws_text, raws_after, cut_text, cut_after, shown_at, piece_text, piece_after, end_text};
+ghost use Rattle.redo_text.specs.Streaming.{capped, fault_bytes, raw_text, raw_after, raws_text, raws_after, cut_text, cut_after, shown_at, piece_text, piece_after, end_text, end_ended};
 
 use crate::fault_line::{LogFault, show_fault};
 use crate::showing::show_record;
@@ -248,12 +248,14 @@ impl Shown {
         self.place.ended
     }
 
-    /// The line that the end of the log's bytes adds, where records are missing and no fault was shown.
-    pub fn finish(self, alloc: Global) -> Result<Vec<u8>, NoMemory>
-        ensures text { IfOk result (λ text. text.items ≡ end_text self) }
+    /// The line that the end of the log's bytes adds, where records are missing and no fault was shown; and whether a fault is
+    /// shown now, by this line or an earlier one.
+    pub fn finish(self, alloc: Global) -> Result<(Vec<u8>, bool), NoMemory>
+        ensures text { IfOk result (λ x. x.0.items ≡ end_text self) }
+        ensures ended { IfOk result (λ x. x.1 ≡ end_ended self) }
     {
         let Shown { cutter, place } = self;
-        let (_, text) = place.with_cut(alloc, cutter.finish())?;
-        Ok(text)
+        let (place, text) = place.with_cut(alloc, cutter.finish())?;
+        Ok((text, place.ended))
     }
 }

@@ -21,9 +21,11 @@ use crate::vector::{Vector, Vectors};
 use rl_value::VecFault;
 use std::alloc::Global;
 
+/// Reads one vector from the front of bytes, and gives the bytes behind it. The place of a fault is counted back from the length
+/// `size`: it is that less the bytes that are left there.
 #[tactic(auto, unfolding(crate::specs::Reading::vector_at))]
-fn vector_of(alloc: Global, size: u32, bytes: &[u8]) -> Result<(Vector, &[u8]), DecodeFault>
-    ensures { Gives (λ x. (x.0, x.1.now)) result (vector_at size bytes.now) }
+pub fn vector_of(alloc: Global, size: u32, bytes: &[u8]) -> Result<(Vector, &[u8]), DecodeFault>
+    ensures read { Gives (λ x. (x.0, x.1.now)) result (vector_at size bytes.now) }
 {
     let (kind, rest) = u8_at(size, bytes)?;
     match kind {

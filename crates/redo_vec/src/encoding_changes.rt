@@ -8,8 +8,9 @@ use crate::encoding_fields::{put_content, put_u32, put_u64, put_xid};
 use rl_value::{Cells, Value, Xid};
 use std::alloc::AllocError;
 
-fn put_value(out: &mut Vec<u8>, item: &Value) -> Result<(), AllocError>
-    ensures { OnOk result (out.new.items ≡ out.old.items ++ value item.now) }
+/// A value.
+pub fn put_value(out: &mut Vec<u8>, item: &Value) -> Result<(), AllocError>
+    ensures put { OnOk result (out.new.items ≡ out.old.items ++ value item.now) }
 {
     match item {
         Value::Null => Ok(out.push(0)?),
@@ -64,8 +65,9 @@ fn put_head(out: &mut Vec<u8>, kind: Op, id: Xid, table: u32) -> Result<(), Allo
     put_u32(out, table)
 }
 
-pub(crate) fn put_change(out: &mut Vec<u8>, told: &Change) -> Result<(), AllocError>
-    ensures { OnOk result (out.new.items ≡ out.old.items ++ change told.now) }
+/// A change, as a vector.
+pub fn put_change(out: &mut Vec<u8>, told: &Change) -> Result<(), AllocError>
+    ensures put { OnOk result (out.new.items ≡ out.old.items ++ change told.now) }
 {
     put_head(out, told.op, told.xid, told.table)?;
     put_cells(out, &told.old)?;

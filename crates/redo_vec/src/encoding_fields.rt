@@ -5,26 +5,30 @@ ghost use Rattle.redo_vec.specs.Spelling.{be16, be32, be64, xid};
 use rl_value::Xid;
 use std::alloc::AllocError;
 
-pub(crate) fn put_u16(out: &mut Vec<u8>, number: u16) -> Result<(), AllocError>
-    ensures { OnOk result (out.new.items ≡ out.old.items ++ be16 number) }
+/// A number of two bytes, big-endian.
+pub fn put_u16(out: &mut Vec<u8>, number: u16) -> Result<(), AllocError>
+    ensures put { OnOk result (out.new.items ≡ out.old.items ++ be16 number) }
 {
     out.extend_from_slice(&number.to_be_bytes())
 }
 
-pub(crate) fn put_u32(out: &mut Vec<u8>, number: u32) -> Result<(), AllocError>
-    ensures { OnOk result (out.new.items ≡ out.old.items ++ be32 number) }
+/// A number of four bytes, big-endian.
+pub fn put_u32(out: &mut Vec<u8>, number: u32) -> Result<(), AllocError>
+    ensures put { OnOk result (out.new.items ≡ out.old.items ++ be32 number) }
 {
     out.extend_from_slice(&number.to_be_bytes())
 }
 
-pub(crate) fn put_u64(out: &mut Vec<u8>, number: u64) -> Result<(), AllocError>
-    ensures { OnOk result (out.new.items ≡ out.old.items ++ be64 number) }
+/// A number of eight bytes, big-endian.
+pub fn put_u64(out: &mut Vec<u8>, number: u64) -> Result<(), AllocError>
+    ensures put { OnOk result (out.new.items ≡ out.old.items ++ be64 number) }
 {
     out.extend_from_slice(&number.to_be_bytes())
 }
 
-pub(crate) fn put_xid(out: &mut Vec<u8>, id: Xid) -> Result<(), AllocError>
-    ensures { OnOk result (out.new.items ≡ out.old.items ++ xid id) }
+/// A transaction id.
+pub fn put_xid(out: &mut Vec<u8>, id: Xid) -> Result<(), AllocError>
+    ensures put { OnOk result (out.new.items ≡ out.old.items ++ xid id) }
 {
     put_u16(out, id.usn)?;
     put_u16(out, id.slot)?;
@@ -32,9 +36,9 @@ pub(crate) fn put_xid(out: &mut Vec<u8>, id: Xid) -> Result<(), AllocError>
 }
 
 /// Bytes with their count before them, in one byte.
-pub(crate) fn put_short(out: &mut Vec<u8>, bytes: &[u8]) -> Result<(), AllocError>
-    requires { length bytes.now < 256 }
-    ensures { OnOk result (out.new.items ≡ out.old.items ++ length bytes.now ∷ bytes.now) }
+pub fn put_short(out: &mut Vec<u8>, bytes: &[u8]) -> Result<(), AllocError>
+    requires short { length bytes.now < 256 }
+    ensures put { OnOk result (out.new.items ≡ out.old.items ++ length bytes.now ∷ bytes.now) }
 {
     out.push(bytes.len() as u8)?;
     out.extend_from_slice(bytes)

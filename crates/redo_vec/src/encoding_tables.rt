@@ -102,8 +102,8 @@ fn put_names(out: &mut Vec<u8>, told: &TableRow) -> Result<(), AllocError>
 }
 
 /// The table with its id before it.
-pub(crate) fn put_table(out: &mut Vec<u8>, told: &TableRow) -> Result<(), AllocError>
-    ensures { OnOk result (out.new.items ≡ out.old.items ++ (be32 told.now.id ++ table told.now)) }
+pub fn put_table(out: &mut Vec<u8>, told: &TableRow) -> Result<(), AllocError>
+    ensures put { OnOk result (out.new.items ≡ out.old.items ++ (be32 told.now.id ++ table told.now)) }
 {
     put_names(out, told)?;
     put_columns(out, &told.columns)?;

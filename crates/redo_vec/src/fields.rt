@@ -29,8 +29,9 @@ fn not_whole(size: u32) -> DecodeFault
     }
 }
 
-pub(crate) fn u8_at(size: u32, bytes: &[u8]) -> Result<(u8, &[u8]), DecodeFault>
-    ensures { Gives (λ x. (x.0, x.1.now)) result (byte_at size bytes.now) }
+/// A byte.
+pub fn u8_at(size: u32, bytes: &[u8]) -> Result<(u8, &[u8]), DecodeFault>
+    ensures read { Gives (λ x. (x.0, x.1.now)) result (byte_at size bytes.now) }
 {
     match bytes {
         [] => Err(not_whole(size)),
@@ -38,8 +39,9 @@ pub(crate) fn u8_at(size: u32, bytes: &[u8]) -> Result<(u8, &[u8]), DecodeFault>
     }
 }
 
-pub(crate) fn u16_at(size: u32, bytes: &[u8]) -> Result<(u16, &[u8]), DecodeFault>
-    ensures { Gives (λ x. (x.0, x.1.now)) result (number_at w16 size bytes.now) }
+/// A number of two bytes, big-endian.
+pub fn u16_at(size: u32, bytes: &[u8]) -> Result<(u16, &[u8]), DecodeFault>
+    ensures read { Gives (λ x. (x.0, x.1.now)) result (number_at w16 size bytes.now) }
 {
     if bytes.len() < 2 {
         return Err(not_whole(size));
@@ -48,8 +50,9 @@ pub(crate) fn u16_at(size: u32, bytes: &[u8]) -> Result<(u16, &[u8]), DecodeFaul
     Ok((u16::from_be_bytes([front[0], front[1]]), rest))
 }
 
-pub(crate) fn u32_at(size: u32, bytes: &[u8]) -> Result<(u32, &[u8]), DecodeFault>
-    ensures { Gives (λ x. (x.0, x.1.now)) result (number_at w32 size bytes.now) }
+/// A number of four bytes, big-endian.
+pub fn u32_at(size: u32, bytes: &[u8]) -> Result<(u32, &[u8]), DecodeFault>
+    ensures read { Gives (λ x. (x.0, x.1.now)) result (number_at w32 size bytes.now) }
 {
     if bytes.len() < 4 {
         return Err(not_whole(size));
@@ -59,8 +62,9 @@ pub(crate) fn u32_at(size: u32, bytes: &[u8]) -> Result<(u32, &[u8]), DecodeFaul
     Ok((number, rest))
 }
 
-pub(crate) fn u64_at(size: u32, bytes: &[u8]) -> Result<(u64, &[u8]), DecodeFault>
-    ensures { Gives (λ x. (x.0, x.1.now)) result (number_at w64 size bytes.now) }
+/// A number of eight bytes, big-endian.
+pub fn u64_at(size: u32, bytes: &[u8]) -> Result<(u64, &[u8]), DecodeFault>
+    ensures read { Gives (λ x. (x.0, x.1.now)) result (number_at w64 size bytes.now) }
 {
     if bytes.len() < 8 {
         return Err(not_whole(size));
@@ -72,8 +76,9 @@ pub(crate) fn u64_at(size: u32, bytes: &[u8]) -> Result<(u64, &[u8]), DecodeFaul
     Ok((number, rest))
 }
 
-pub(crate) fn bytes_of(size: u32, count: usize, bytes: &[u8]) -> Result<(&[u8], &[u8]), DecodeFault>
-    ensures { Gives (λ x. (x.0.now, x.1.now)) result (bytes_at size count bytes.now) }
+/// So many bytes, lent.
+pub fn bytes_of(size: u32, count: usize, bytes: &[u8]) -> Result<(&[u8], &[u8]), DecodeFault>
+    ensures read { Gives (λ x. (x.0.now, x.1.now)) result (bytes_at size count bytes.now) }
 {
     if bytes.len() < count {
         return Err(not_whole(size));
@@ -82,9 +87,10 @@ pub(crate) fn bytes_of(size: u32, count: usize, bytes: &[u8]) -> Result<(&[u8], 
     Ok((front, rest))
 }
 
+/// A transaction id.
 #[tactic(auto, unfolding(crate::specs::Reading::xid_at))]
-pub(crate) fn xid_of(size: u32, bytes: &[u8]) -> Result<(Xid, &[u8]), DecodeFault>
-    ensures { Gives (λ x. (x.0, x.1.now)) result (xid_at size bytes.now) }
+pub fn xid_of(size: u32, bytes: &[u8]) -> Result<(Xid, &[u8]), DecodeFault>
+    ensures read { Gives (λ x. (x.0, x.1.now)) result (xid_at size bytes.now) }
 {
     let (usn, rest) = u16_at(size, bytes)?;
     let (slot, rest) = u16_at(size, rest)?;

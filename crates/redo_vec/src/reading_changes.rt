@@ -48,9 +48,10 @@ fn raw_of(alloc: Global, content: &[u8]) -> Result<Value, DecodeFault>
     }
 }
 
+/// A value.
 #[tactic(auto, unfolding(crate::specs::Reading::value_at))]
-fn value_of(alloc: Global, size: u32, bytes: &[u8]) -> Result<(Value, &[u8]), DecodeFault>
-    ensures { Gives (λ x. (x.0, x.1.now)) result (value_at size bytes.now) }
+pub fn value_of(alloc: Global, size: u32, bytes: &[u8]) -> Result<(Value, &[u8]), DecodeFault>
+    ensures read { Gives (λ x. (x.0, x.1.now)) result (value_at size bytes.now) }
 {
     let (tag, rest) = u8_at(size, bytes)?;
     match tag {

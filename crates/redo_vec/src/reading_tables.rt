@@ -200,13 +200,10 @@ fn keys_of(alloc: Global, size: u32, bytes: &[u8]) -> Result<(KeyLists, &[u8]), 
     Ok((KeyLists::of(keys), rest))
 }
 
+/// A table with its id before it.
 #[tactic(auto, unfolding(crate::specs::Reading::table_at))]
-pub(crate) fn table_of(
-    alloc: Global,
-    size: u32,
-    bytes: &[u8],
-) -> Result<(TableRow, &[u8]), DecodeFault>
-    ensures { Gives (λ x. (x.0, x.1.now)) result (table_at size bytes.now) }
+pub fn table_of(alloc: Global, size: u32, bytes: &[u8]) -> Result<(TableRow, &[u8]), DecodeFault>
+    ensures read { Gives (λ x. (x.0, x.1.now)) result (table_at size bytes.now) }
 {
     let (id, rest) = u32_at(size, bytes)?;
     let (schema, rest) = name_of(alloc, size, rest)?;

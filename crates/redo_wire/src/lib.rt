@@ -13,6 +13,3 @@ pub use header::{HEADER_LENGTH, read_header};
 pub use pieces::{pieces_do_not_matter, pieces_give_the_records};
 pub use raw::{Fed, Raw, Raws};
 pub use redo_spec::Header;
-
-#[cfg(test)]
-mod tests;

@@ -1,2 +1,4 @@
+pub mod Words
 pub mod Writing
 pub mod Showing
+pub mod Exit

@@ -1,10 +1,10 @@
-//! What is said on the standard error, and the exit codes.
-use crate::refusal::Refusal;
+//! What is said on the standard error.
+use crate::refusal::{Refusal, StreamFault};
 use redo_text::LineFault;
 use std::io::Eprint;
 
 /// The page of usage.
-pub const USAGE: &str = "\
+const USAGE: &str = "\
 Usage: redolog write < TEXT > LOG
        redolog show < LOG > TEXT
        redolog head < LOG
@@ -16,18 +16,6 @@ prints the header alone.
 Exit code: 0 done; 2 usage; 4 the input can't be read; 5 the output can't be
 written; 9 the log is damaged; 11 a bad line, or a text of over 1 GiB;
 15 out of memory.";
-
-/// The exit code of a refusal: that of `sqlapply` for the same cause.
-pub fn code_of(refusal: Refusal) -> u8 {
-    match refusal {
-        Refusal::Input => 4,
-        Refusal::Output => 5,
-        Refusal::Damaged => 9,
-        Refusal::Line { .. } => 11,
-        Refusal::Long => 11,
-        Refusal::Memory => 15,
-    }
-}
 
 fn why(fault: LineFault) -> &'static str {
     match fault {
@@ -46,9 +34,20 @@ fn why(fault: LineFault) -> &'static str {
     }
 }
 
+fn why_no_further(fault: StreamFault) -> &'static str {
+    match fault {
+        StreamFault::Input => "the standard input can't be read",
+        StreamFault::Output => "the standard output can't be written",
+        StreamFault::Memory => "out of memory",
+    }
+}
+
 /// Says why a command did not end as asked. A write to the standard error that fails is passed over.
 pub fn tell<R: Eprint>(rt: &R, refusal: Refusal) {
     match refusal {
+        Refusal::Usage => {
+            let _ = eprintln!(rt; "{USAGE}");
+        }
         Refusal::Line { line, fault } => {
             let why = why(fault);
             let _ = eprintln!(rt; "redolog: line {line}: {why}");
@@ -59,14 +58,9 @@ pub fn tell<R: Eprint>(rt: &R, refusal: Refusal) {
         Refusal::Damaged => {
             let _ = eprintln!(rt; "redolog: the log has a fault, which the last line names");
         }
-        Refusal::Input => {
-            let _ = eprintln!(rt; "redolog: the standard input can't be read");
-        }
-        Refusal::Output => {
-            let _ = eprintln!(rt; "redolog: the standard output can't be written");
-        }
-        Refusal::Memory => {
-            let _ = eprintln!(rt; "redolog: out of memory");
+        Refusal::Stream(fault) => {
+            let why = why_no_further(fault);
+            let _ = eprintln!(rt; "redolog: {why}");
         }
     }
 }

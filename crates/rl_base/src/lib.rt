@@ -6,8 +6,6 @@ mod line;
 mod lines;
 mod replay;
 mod status;
-#[cfg(test)]
-mod tests;
 mod which;
 
 pub use events::{EventLines, Events, MAX_EVENTS};

@@ -10,8 +10,6 @@ mod rows;
 mod sink;
 mod source;
 mod spill;
-#[cfg(test)]
-mod tests;
 
 pub use archive::{MemArchive, SureArchive};
 pub use keeper::{MemKeeper, SureKeeper};

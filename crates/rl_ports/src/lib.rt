@@ -10,8 +10,6 @@ mod keeper;
 mod sink;
 mod source;
 mod spill;
-#[cfg(test)]
-mod tests;
 
 pub use archive::Archive;
 pub use batch::{Batch, Item, Pair};

@@ -5,8 +5,6 @@ mod input;
 mod literal;
 mod output;
 mod reading;
-#[cfg(test)]
-mod tests;
 
 pub use input::{ReadFault, read_all};
 pub use literal::{put_key, put_row, put_value, put_xid};

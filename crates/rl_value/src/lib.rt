@@ -15,8 +15,6 @@ mod name;
 mod pos;
 mod row;
 mod scn;
-#[cfg(test)]
-mod tests;
 mod txt;
 mod value;
 mod verdict;

@@ -24,15 +24,15 @@ use Rattle.row_apply.proofs.Owners.{none_owns, left_was, one_owner-minus}
 
 -- ---- what was in the way
 
-neither : {A : Type 0} (a b : Option A) → option_or a b ≡ None → (a ≡ None) × (b ≡ None)
+pub neither : {A : Type 0} (a b : Option A) → option_or a b ≡ None → (a ≡ None) × (b ≡ None)
 neither None b e = (refl, e)
 neither (Some x) b e = absurd (cc)
 
-unmapped : {A B : Type 0} (f : A → B) (a : Option A) → option_map f a ≡ None → a ≡ None
+pub unmapped : {A B : Type 0} (f : A → B) (a : Option A) → option_map f a ≡ None → a ≡ None
 unmapped f None e = refl
 unmapped f (Some x) e = absurd (cc)
 
-unrefused : {A E : Type 0} (refusal : Option E) (x y : A) → refused_by refusal x ≡ Ok y → (refusal ≡ None) × (x ≡ y)
+pub unrefused : {A E : Type 0} (refusal : Option E) (x y : A) → refused_by refusal x ≡ Ok y → (refusal ≡ None) × (x ≡ y)
 unrefused None x y e = (refl, cc)
 unrefused (Some r) x y e = absurd (cc)
 
@@ -89,7 +89,7 @@ sound-minus t gone rows s = record {
 }
 
 -- a row that is found is the added one or was there
-found_put : (b : Bool) (key new row x : List Value) (F : Option (List Value)) → eq_by_cmp row_cmp key new ≡ b →
+pub found_put : (b : Bool) (key new row x : List Value) (F : Option (List Value)) → eq_by_cmp row_cmp key new ≡ b →
     cond b (Some row) F ≡ Some x → (A : Type 0) → (key ≡ new → row ≡ x → A) → (F ≡ Some x → A) → A
 found_put true key new row x F t e A here there = here (row_is key new t) (cc)
 found_put false key new row x F t e A here there = there e

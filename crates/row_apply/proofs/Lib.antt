@@ -18,3 +18,4 @@ pub mod Logged
 pub mod Untouched
 pub mod Touched
 pub mod Staying
+pub mod Telling

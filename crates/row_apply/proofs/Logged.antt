@@ -45,7 +45,7 @@ primary_within t e =
 -- ---- the old cells have them
 
 -- among the numbers of the columns those that pass are there
-passed : (test : ℕ → Bool) (p n : ℕ) (cs : List Column) → test p ≡ true → n ≤ p → p < n + length cs →
+pub passed : (test : ℕ → Bool) (p n : ℕ) (cs : List Column) → test p ≡ true → n ≤ p → p < n + length cs →
     has_column (filter test (numbers_from n cs)) p ≡ true
 passed test p n [] t low high = absurd (omega (arith, low, high))
 passed test p n (c ∷ cs) t low high =
@@ -66,7 +66,7 @@ passed test p n (c ∷ cs) t low high =
     ] refl
 
 -- as many cells as columns are of all columns
-covered : (n bound p : ℕ) (cells : List (ℕ × Value)) → columns_rise n cells ≡ true →
+pub covered : (n bound p : ℕ) (cells : List (ℕ × Value)) → columns_rise n cells ≡ true →
     list_any (λ cell. nat_le bound cell.0) cells ≡ false → n + length cells ≡ bound → n ≤ p → p < bound →
     has_column (columns_of cells) p ≡ true
 covered n bound p [] r u l low high = absurd (omega (arith, l, low, high))
@@ -84,7 +84,7 @@ covered n bound p (cell ∷ cells) r u l low high =
           right (cell.0 == p) _ (covered (cell.0 + 1) bound p cells g.2 q.1 (omega (arith, same, l)) beside high)
     ] refl
 
-same_is : (xs ys : List ℕ) → same_bytes xs ys ≡ true → xs ≡ ys
+pub same_is : (xs ys : List ℕ) → same_bytes xs ys ≡ true → xs ≡ ys
 same_is [] [] e = refl
 same_is [] (y ∷ ys) e = absurd (cc)
 same_is (x ∷ xs) [] e = absurd (cc)

@@ -20,15 +20,15 @@ use Rattle.row_apply.proofs.Fitting.{updated_fits}
 
 -- ---- results
 
-bound : {A B E : Type 0} (r : Result A E) (f : A → Result B E) (y : B) → (r >>= f) ≡ Ok y → (x : A) × ((r ≡ Ok x) × (f x ≡ Ok y))
+pub bound : {A B E : Type 0} (r : Result A E) (f : A → Result B E) (y : B) → (r >>= f) ≡ Ok y → (x : A) × ((r ≡ Ok x) × (f x ≡ Ok y))
 bound (Ok x) f y e = (x, (refl, e))
 bound (Err m) f y e = absurd (cc)
 
-or_err_is : {A E : Type 0} (o : Option A) (m : E) (x : A) → or_err o m ≡ Ok x → o ≡ Some x
+pub or_err_is : {A E : Type 0} (o : Option A) (m : E) (x : A) → or_err o m ≡ Ok x → o ≡ Some x
 or_err_is None m x e = absurd (cc)
 or_err_is (Some y) m x e = let same : y ≡ x = cc in ap Some same
 
-refused_is : {A E : Type 0} (o : Option E) (x y : A) → refused_by o x ≡ Ok y → x ≡ y
+pub refused_is : {A E : Type 0} (o : Option E) (x y : A) → refused_by o x ≡ Ok y → x ≡ y
 refused_is None x y e = cc
 refused_is (Some m) x y e = absurd (cc)
 
@@ -40,7 +40,7 @@ pub record WasTaken (t : Table) (k row : List Value) (u : Table) : Type 0 where
   pub same : u.row ≡ t.row
   pub sound : AreSoundRows t.row t.rows → AreSoundRows u.row u.rows
 
-taken_is : (t : Table) (k : List Value) (logged : List (ℕ × Value)) (taken : List Value × Table) →
+pub taken_is : (t : Table) (k : List Value) (logged : List (ℕ × Value)) (taken : List Value × Table) →
     take_row t k logged ≡ Ok taken → WasTaken t k taken.0 taken.1
 taken_is t k logged taken e =
     let b = bound (or_err (entries.find row_cmp k t.rows) _) _ taken e in
@@ -60,7 +60,7 @@ added_sound t row u s fit e =
     let w = was_added t.row t.rows row u e in
     subst (λ (v : Table). AreSoundRows v.row v.rows) w.is (sound-added t.row t.rows row u s fit w)
 
-same_on : (t : Table) (op : Op) (old new : List (ℕ × Value)) (u : Table) → effect_on t op old new ≡ Ok u → u.row ≡ t.row
+pub same_on : (t : Table) (op : Op) (old new : List (ℕ × Value)) (u : Table) → effect_on t op old new ≡ Ok u → u.row ≡ t.row
 same_on t Insert old new u e = added_same t (cell_values new) u e
 same_on t Update old new u e =
     let b = bound (take_row t (logged_key t.row old) old) _ u e in
@@ -70,7 +70,7 @@ same_on t Delete old new u e =
     let same : b.0.1 ≡ u = cc in
     ap (λ (v : Table). v.row) (sym same) ∙ (taken_is t (logged_key t.row old) old b.0 b.1.0).same
 
-sound_on : (t : Table) (c : Change) (u : Table) → AreSoundRows t.row t.rows → change_fault_in t.row c ≡ None →
+pub sound_on : (t : Table) (c : Change) (u : Table) → AreSoundRows t.row t.rows → change_fault_in t.row c ≡ None →
     are_cells c.new ≡ true → (op : Op) → c.op ≡ op → effect_on t op c.old c.new ≡ Ok u → AreSoundRows u.row u.rows
 sound_on t c u s fits cells Insert is e = added_sound t (cell_values c.new) u s (insert_fits t.row c is cells fits) e
 sound_on t c u s fits cells Update is e =

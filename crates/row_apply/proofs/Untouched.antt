@@ -115,7 +115,7 @@ some_before : (o : Option Value) (rest : List (Option Value)) (values : List Val
 some_before None rest values s e = absurd (cc)
 some_before (Some x) rest values s e = ap (λ (o : Option (List Value)). option_map (λ xs. x ∷ xs) o) e
 
-all_there : (given : ℕ → Option Value) (columns : List ℕ) → ((p : ℕ) → has_column columns p ≡ true → is_some (given p) ≡ true) →
+pub all_there : (given : ℕ → Option Value) (columns : List ℕ) → ((p : ℕ) → has_column columns p ≡ true → is_some (given p) ≡ true) →
     all_of (map given columns) ≡ Some (filter_map given columns)
 all_there given [] each = refl
 all_there given (column ∷ columns) each =
@@ -123,7 +123,7 @@ all_there given (column ∷ columns) each =
     (each column (left (column == column) (has_column columns column) (own_number column)))
     (all_there given columns (λ p h. each p (right (column == p) (has_column columns p) h)))
 
-all_values : (given : ℕ → Option Value) (row : List Value) (columns : List ℕ) →
+pub all_values : (given : ℕ → Option Value) (row : List Value) (columns : List ℕ) →
     ((p : ℕ) → has_column columns p ≡ true → given p ≡ Some (value_in row p)) →
     all_of (map given columns) ≡ Some (values_at row columns)
 all_values given row [] each = refl
@@ -133,7 +133,7 @@ all_values given row (column ∷ columns) each =
     ∙ ap (λ (o : Option (List Value)). option_map (λ xs. value_in row column ∷ xs) o)
     (all_values given row columns (λ p h. each p (right (column == p) (has_column columns p) h)))
 
-within : (columns : List ℕ) (bound p : ℕ) → list_all (λ c. nat_lt c bound) columns ≡ true →
+pub within : (columns : List ℕ) (bound p : ℕ) → list_all (λ c. nat_lt c bound) columns ≡ true →
     has_column columns p ≡ true → p < bound
 within [] bound p all has = absurd (cc)
 within (column ∷ columns) bound p all has =
@@ -159,7 +159,7 @@ first_column n bound cell cells r u l =
     let same : cell.0 ≡ n = omega (arith, above, rest, l) in
     (same, subst (λ (m : ℕ). columns_rise (m + 1) cells ≡ true) same g.2, e.1)
 
-cell_value : (n bound k : ℕ) (cells : List (ℕ × Value)) → columns_rise n cells ≡ true →
+pub cell_value : (n bound k : ℕ) (cells : List (ℕ × Value)) → columns_rise n cells ≡ true →
     list_any (λ x. nat_le bound x.0) cells ≡ false → n + length cells ≡ bound → k < length cells →
     cell_of cells (n + k) ≡ Some (value_in (cell_values cells) k)
 cell_value n bound k [] r u l low = absurd (omega (arith, low))
@@ -177,7 +177,7 @@ cell_value n bound (suc k) (cell ∷ cells) r u l low =
     ∙ cell_value (n + 1) bound k cells f.1 f.2 (omega (arith, l)) (omega (arith, low))
 
 -- the value at a place of values made by the numbers of columns
-number_at : (value : ℕ → Value) (n k : ℕ) (columns : List Column) → k < length columns →
+pub number_at : (value : ℕ → Value) (n k : ℕ) (columns : List Column) → k < length columns →
     value_in (map value (numbers_from n columns)) k ≡ value (n + k)
 number_at value n k [] low = absurd (omega (arith, low))
 number_at value n zero (c ∷ cs) low = let here : n ≡ n + 0 = omega arith in ap value here
@@ -185,7 +185,7 @@ number_at value n (suc k) (c ∷ cs) low = let next : n + 1 + k ≡ n + suc k =
     omega arith in number_at value (n + 1) k cs (omega (arith, low)) ∙ ap value next
 
 -- new cells before old ones
-joined_value : (xs ys : List (ℕ × Value)) (column : ℕ) (value : Value) → cell_of ys column ≡ Some value →
+pub joined_value : (xs ys : List (ℕ × Value)) (column : ℕ) (value : Value) → cell_of ys column ≡ Some value →
     cell_of (xs ++ ys) column ≡ Some (unwrap_or (cell_of xs column) value)
 joined_value [] ys column value e = e
 joined_value ((own, v) ∷ xs) ys column value e =
@@ -197,7 +197,7 @@ joined_value ((own, v) ∷ xs) ys column value e =
     ]
 
 -- a row that is as it was logged has the logged values
-logged_value : (row : List Value) (cells : List (ℕ × Value)) (column : ℕ) → difference row cells ≡ None →
+pub logged_value : (row : List Value) (cells : List (ℕ × Value)) (column : ℕ) → difference row cells ≡ None →
     is_some (cell_of cells column) ≡ true → cell_of cells column ≡ Some (value_in row column)
 logged_value row [] column d s = absurd (cc)
 logged_value row ((own, logged) ∷ cells) column d s =

@@ -13,7 +13,7 @@ ghost use Rattle.redo_vec.specs.declared.change.Op.TheVariants.{Insert, Update, 
 ghost use Rattle.row_apply.specs.Adding.{CanChange};
 ghost use Rattle.row_apply.specs.Changes.{Changes};
 ghost use Rattle.row_apply.specs.Kept.{row_key};
-ghost use Rattle.row_apply.specs.Overlaid.{overlaid, are_of, WritesOnly, WritesAll, WritesStay};
+ghost use Rattle.row_apply.specs.Overlaid.{overlaid, are_of, writes_rise, WritesOnly, WritesAll, WritesStay};
 ghost use Rattle.row_apply.specs.Outcomes.{OnMiss};
 ghost use Rattle.row_apply.specs.Soundness.{AreSound};
 
@@ -144,6 +144,7 @@ pub fn effect<R: Rows>(
     ensures sound { AreSound (R.tables base.now) → AreSound (overlaid (R.tables base.now) over.old) →
         AreSound (overlaid (R.tables base.now) over.new) }
     ensures unchanged { OnErr result (over.new ≡ over.old) }
+    ensures rising { IsTrue (writes_rise over.new) }
     ensures grows { WritesStay over.old over.new }
     ensures of_tables { IsTrue (are_of dict.now.tables over.old) → IsTrue (are_of dict.now.tables over.new) }
     ensures only { OnOk result (WritesOnly (conflict_keys dict.now.tables change.now) over.old over.new) }

@@ -1,9 +1,10 @@
 //! What was written, copied: as slots of another overlay, or as writes.
 
-ghost use Rattle.std.specs.Prelude.{◌≡◌, ◌<◌, IfOk, OnOk};
+ghost use Rattle.std.specs.Prelude.{◌≡◌, ◌<◌, IfOk, OnOk, []};
 ghost use Rattle.std.specs.BTreeMap.{insert_entry};
 ghost use Rattle.rl_value.specs.Order.{key_cmp};
-ghost use Rattle.row_apply.specs.Written.{writes_in, write_of};
+ghost use Rattle.row_apply.specs.Overlaid.{written_key};
+ghost use Rattle.row_apply.specs.Written.{writes_in, write_of, put_writes};
 
 use crate::writes::Write;
 use rl_value::{Key, NoMemory, Row};
@@ -97,4 +98,34 @@ pub fn moved_writes(alloc: Global, rows: BTreeMap<Key, Option<Row>>) -> Result<V
         }
     }
     Ok(writes)
+}
+
+fn put_write(rows: &mut BTreeMap<Key, Option<Row>>, write: &Write) -> Result<(), NoMemory>
+    ensures { OnOk result (rows.new.entries ≡
+        insert_entry key_cmp rows.old.entries (written_key write.now) write.now.row) }
+{
+    let values = write.key.copy()?;
+    let slot = copied_slot(&write.row)?;
+    let key = Key {
+        table: write.table,
+        index: 0,
+        values,
+    };
+    match rows.insert(key, slot) {
+        Ok(_) => Ok(()),
+        Err(_) => Err(NoMemory),
+    }
+}
+
+/// The rows of these writes, under their keys.
+pub fn rows_of(alloc: Global, writes: &[Write]) -> Result<BTreeMap<Key, Option<Row>>, NoMemory>
+    ensures { IfOk result (λ rows. rows.entries ≡ put_writes [] writes.now) }
+{
+    let mut rows = BTreeMap::new(alloc);
+    let mut rest = writes;
+    while let [write, others @ ..] = rest {
+        put_write(&mut rows, write)?;
+        rest = others;
+    }
+    Ok(rows)
 }

@@ -1,8 +1,8 @@
 //! Laws of overlaid and of sound tables, and of single writes, each stated by a public function with an empty body. A proof
 //! above uses a law where its function calls it.
-ghost use Rattle.std.specs.Prelude.{◌≡◌, ◌≢◌, ◌↔◌, ℕ, List, [], None, Some, Option, Ok, false, if◌then◌else◌, slice_get, IsTrue};
-ghost use Rattle.std.specs.List.{list_any};
-ghost use Rattle.std.specs.Ordering.{eq_by_cmp};
+ghost use Rattle.std.specs.Prelude.{◌≡◌, ◌≢◌, ◌↔◌, ◌++◌, ℕ, List, [], None, Some, Option, Ok, false, if◌then◌else◌, slice_get, IsTrue};
+ghost use Rattle.std.specs.List.{list_any, AllByRecursion};
+ghost use Rattle.std.specs.Ordering.{eq_by_cmp, is_eq};
 ghost use Rattle.std.specs.FinMap.Entries as entries;
 ghost use Rattle.rl_value.specs.declared.value.Value.{Value};
 ghost use Rattle.rl_value.specs.declared.key.Key.{Key};
@@ -16,7 +16,9 @@ ghost use Rattle.redo_spec.specs.Dictionary.{uniques_of};
 ghost use Rattle.redo_spec.specs.Effect.{effect};
 ghost use Rattle.redo_spec.specs.Tables.{Rows, Tables, empty_tables, definitions_of, owner_in, values_at};
 ghost use Rattle.redo_spec.specs.Work.{write_row};
-ghost use Rattle.row_apply.specs.Overlaid.{overlaid};
+ghost use Rattle.row_apply.specs.declared.writes.Write.{Write};
+ghost use Rattle.row_apply.specs.Overlaid.{overlaid, written_at, written_key, writes_rise};
+ghost use Rattle.row_apply.specs.Written.{writes_in, put_writes};
 ghost use Rattle.row_apply.specs.Soundness.{AreSound, AreSoundRows};
 
 /// Tables without rows are sound.
@@ -64,4 +66,19 @@ pub fn equal_in_order_is_equal()
 /// No writes change nothing.
 pub fn no_writes_change_nothing()
     ensures same { (tables : Tables) → overlaid tables [] ≡ tables }
+{}
+
+/// Writes that rise are told by what they leave under each key.
+pub fn writes_are_what_they_leave()
+    ensures same { (one other : List Write) → IsTrue (writes_rise one) → IsTrue (writes_rise other) →
+        ((key : Key) → written_at one key ≡ written_at other key) → one ≡ other }
+{}
+
+/// Writes that are made behind others: what they leave is told by what stands under each key.
+pub fn later_writes_are_put_in()
+    ensures same { (before writes new : List Write) → IsTrue (writes_rise new) →
+        AllByRecursion (λ w. written_at new (written_key w) ≡ Some w.row) writes →
+        ((key : Key) → list_any (λ w. is_eq (key_cmp (written_key w) key)) writes ≡ false →
+        written_at new key ≡ written_at (writes_in (put_writes [] before)) key) →
+        new ≡ writes_in (put_writes [] (before ++ writes)) }
 {}

@@ -13,8 +13,6 @@ mod other_owners;
 mod overlay;
 mod rows;
 mod seen;
-#[cfg(test)]
-mod tests;
 mod writes;
 mod written;
 

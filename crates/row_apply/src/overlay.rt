@@ -3,11 +3,13 @@
 //! An overlay is seen as the list of its writes. The index of unique values that it also keeps is seen nowhere.
 
 ghost use Rattle.std.specs.Prelude.{◌≡◌, ◌<◌, List, [], IfOk};
+ghost use Rattle.std.specs.Option.{option_copied};
+ghost use Rattle.row_apply.specs.Overlaid.{written_at};
 
-use crate::copies::copied_writes;
+use crate::copies::{copied_writes, rows_of};
 use crate::writes::Writes;
 use crate::written::Written;
-use rl_value::NoMemory;
+use rl_value::{Key, NoMemory, Row};
 use std::alloc::Global;
 use std::marker::Model;
 
@@ -40,6 +42,24 @@ impl Overlay {
         Overlay {
             written: Written::new(alloc),
         }
+    }
+
+    /// An overlay with these writes.
+    pub fn of(alloc: Global, writes: &Writes) -> Result<Overlay, NoMemory>
+        ensures same { IfOk result (λ overlay. overlay ≡ writes.now) }
+    {
+        let rows = rows_of(alloc, writes.items())?;
+        Ok(Overlay {
+            written: Written::of(alloc, rows),
+        })
+    }
+
+    /// What was left under a row key: the row, or that it is gone. None where nothing was written there.
+    #[tactic(auto, using(crate::proofs::Untouched::written_slot))]
+    pub fn find(&self, key: &Key) -> Option<&Option<Row>>
+        ensures found { option_copied result ≡ written_at self.now key.now }
+    {
+        self.written.rows.get(key)
     }
 
     /// An equal overlay, which owns memory of its own.

@@ -47,6 +47,20 @@ impl Written {
         }
     }
 
+    /// These rows, of which no table is indexed yet.
+    pub fn of(alloc: Global, rows: BTreeMap<Key, Option<Row>>) -> Written
+        requires slots { AreSlots rows.entries }
+        ensures same { slots_of result ≡ rows.entries }
+        ensures kept { IsKept result }
+    {
+        Written {
+            rows,
+            owners: BTreeMap::new(alloc),
+            indexed: BTreeMap::new(alloc),
+            alloc,
+        }
+    }
+
     // The table is indexed by the keys that it has.
     fn is_indexed(&self, table: &TableRow) -> bool
         ensures { IsTrue result → indexed_at (indexed_of self.now) table.now.id ≡ Some table.now.keys }

@@ -1,5 +1,7 @@
 -- What a write makes of a list of parts: its entries, and that it stays sound.
-use Rattle.std.proofs.Common.{◌≡◌, ℕ, ◌+◌, ◌<◌, List, [], ◌∷◌, ◌++◌, length, get_or, take, drop, refl, sym, ap, ◌∙◌, Bool, true, false, not, subst, Option, IfSome, T, Result, Ok, Err, OnOk, arith, take-append-drop, length-take, length-drop}
+use Rattle.std.proofs.Common.{◌≡◌, ℕ, ◌+◌, ◌<◌, List, [], ◌∷◌, ◌++◌, length, get_or, slice_set, suc, append_assoc, append-nil, take, drop, refl, sym, ap, ◌∙◌, Bool, true, false, not, subst, Option, IfSome, T, Result, Ok, Err, OnOk, arith, take-append-drop, length-take, length-drop}
+use Rattle.std.proofs.Math.Seq.{take-suc-set, take-length, drop-length}
+use Rattle.std.proofs.lemmas.List.{length-set, drop-set-lt}
 use Rattle.std.specs.Ordering.{eq_by_cmp}
 use Rattle.std.specs.FinMap.Entries as entries
 use Rattle.std.specs.List.{flat_map, AllByRecursion, remove}
@@ -24,18 +26,39 @@ some_in : {K : Type 0} (xs : List K) (y : K) (zs : List K) → 0 < length (xs ++
 some_in [] y zs = omega arith
 some_in (x ∷ xs) y zs = omega arith
 
+-- a list that is written through a slice of all of it has the slice's elements
+pub written_back : {K : Type 0} (items slice : List K) (size at : ℕ) (y : K) → slice ≡ items → length slice ≡ size →
+    take size (slice_set slice at y ++ drop (length (slice_set slice at y)) items) ≡ slice_set items at y
+written_back items slice size at y same count =
+    let kept : length (slice_set slice at y) ≡ length items = length-set slice at y ∙ ap length same in
+    let none : drop (length (slice_set slice at y)) items ≡ [] = ap (λ n. drop n items) kept ∙ drop-length items in
+    ap (λ ks. take size (slice_set slice at y ++ ks)) none ∙ ap (take size) (append-nil (slice_set slice at y)) ∙
+    ap (λ n. take n (slice_set slice at y)) (sym count ∙ sym (length-set slice at y)) ∙ take-length (slice_set slice at y) ∙
+    ap (λ ks. slice_set ks at y) same
+
 module _ {K : Type 0} (f : K → Entries) (S : K → Type 0) where
-  pub put_in : (k v : List Value) (children : List K) (at : ℕ) (x y : K) (more : Option K) (removed new : List K)
-      → AreSound f S children → at < length children → x ≡ get_or children at x → IsPlace f k children at → removed ≡
-      remove children at
+  -- the parts after one was written in its place, and another one came behind it, if one did
+  written_parts : (children : List K) (at : ℕ) (y : K) (more : Option K) (written new : List K) → at < length children
+      → written ≡ slice_set children at y → new ≡ take (at + 1) written ++ (option_list more ++ drop (at + 1) written)
+      → new ≡ take at children ++ y ∷ (option_list more ++ drop (at + 1) children)
+  written_parts children at y more written new l is e =
+      let next : at + 1 ≡ suc at = omega arith in
+      let front : take (at + 1) (slice_set children at y) ≡ take at children ++ y ∷ [] =
+      ap (λ n. take n (slice_set children at y)) next ∙ take-suc-set children at y l in
+      let end : drop (at + 1) (slice_set children at y) ≡ drop (at + 1) children =
+      drop-set-lt (at + 1) children at y (omega arith) in
+      e ∙ ap (λ ks. take (at + 1) ks ++ (option_list more ++ drop (at + 1) ks)) is
+      ∙ (λ i. front i ++ (option_list more ++ end i))
+      ∙ append_assoc (take at children) (y ∷ []) (option_list more ++ drop (at + 1) children)
+
+  pub put_in : (k v : List Value) (children : List K) (at : ℕ) (x y : K) (more : Option K) (written new : List K)
+      → AreSound f S children → at < length children → x ≡ get_or children at x → IsPlace f k children at
+      → written ≡ slice_set children at y
       → f y ++ and_more f more ≡ entries.put row_cmp k v (f x) → S y → IfSome more S
-      → new ≡ take at removed ++ y ∷ (option_list more ++ drop at removed)
+      → new ≡ take (at + 1) written ++ (option_list more ++ drop (at + 1) written)
       → (flat_map f new ≡ entries.put row_cmp k v (flat_map f children)) × AreSound f S new
-  put_in k v children at x y more removed new sound l e p gone is one two e2 =
-      let parts : new ≡ take at children ++ y ∷ (option_list more ++ drop (at + 1) children) =
-      e2 ∙ ap (λ ks. take at ks ++ y ∷ (option_list more ++ drop at ks)) gone
-      ∙ ap (λ ks. ks ++ y ∷ (option_list more ++ drop at (remove children at))) (removed_take f children at l)
-      ∙ ap (λ ks. take at children ++ y ∷ (option_list more ++ ks)) (removed_drop f children at l) in
+  put_in k v children at x y more written new sound l e p wrote is one two e2 =
+      let parts = written_parts children at y more written new l wrote e2 in
       let same : flat_map f new ≡ entries.put row_cmp k v (flat_map f children) = ap (flat_map f) parts ∙
       put_at f k v children at x y more l e p is in (
         same,

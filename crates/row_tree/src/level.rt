@@ -1,6 +1,6 @@
 //! A block of any level above the entries: a list of parts of the level beneath.
 
-ghost use Rattle.std.specs.Prelude.{◌≡◌, ◌++◌, ◌∷◌, [], ◌<◌, ◌≤◌, Some, IfOk, OnOk, IfSome, IsTrue, IsFalse, length, take, drop};
+ghost use Rattle.std.specs.Prelude.{◌≡◌, ◌+◌, ◌++◌, ◌∷◌, [], ◌<◌, ◌≤◌, Some, IfOk, OnOk, IfSome, IsTrue, IsFalse, length, take, drop};
 ghost use Rattle.std.specs.Option.{option_copied};
 ghost use Rattle.std.specs.List.{flat_map, AllByRecursion};
 ghost use Rattle.std.specs.FinMap.Entries.{find, put};
@@ -8,6 +8,7 @@ ghost use Rattle.std.specs.Arc.{arc_value};
 ghost use Rattle.rl_value.specs.Order.{row_cmp};
 ghost use Rattle.row_tree.specs.Entries.{first_key, without, and_more, option_list};
 ghost use Rattle.row_tree.specs.Sound.{AreSound};
+ghost use Rattle.row_tree.specs.declared.level.TheConstants.{LIMIT};
 
 use crate::item::Item;
 use crate::part::Part;
@@ -43,22 +44,27 @@ fn shared<K: Part + Drop>(alloc: Global, children: &[K]) -> Result<Vec<K>, NoMem
     Ok(copies)
 }
 
-/// Puts a part at this place, and one more behind it, if there is one.
-fn put_back<K: Drop>(
-    children: &mut Vec<K>,
-    at: usize,
-    child: K,
-    more: Option<K>,
-) -> Result<(), NoMemory>
+/// Inserts one more part behind the one at this place, if there is one.
+fn insert_behind<K: Drop>(children: &mut Vec<K>, at: usize, more: Option<K>) -> Result<(), NoMemory>
+    requires inside { at < length children.old.items }
+    ensures put { OnOk result (children.new.items ≡ take (at + 1) children.old.items ++
+        (option_list more ++ drop (at + 1) children.old.items)) }
+{
+    match more {
+        None => Ok(()),
+        Some(more) => match children.insert(at + 1, more) {
+            Ok(()) => Ok(()),
+            Err(_) => Err(NoMemory),
+        },
+    }
+}
+
+/// Puts a part at this place.
+fn put_back<K: Drop>(children: &mut Vec<K>, at: usize, child: K) -> Result<(), NoMemory>
     requires inside { at ≤ length children.old.items }
     ensures put { OnOk result (children.new.items ≡ take at children.old.items ++
-        child ∷ (option_list more ++ drop at children.old.items)) }
+        child ∷ drop at children.old.items) }
 {
-    if let Some(more) = more {
-        if children.insert(at, more).is_err() {
-            return Err(NoMemory);
-        }
-    }
     match children.insert(at, child) {
         Ok(()) => Ok(()),
         Err(_) => Err(NoMemory),
@@ -116,9 +122,9 @@ impl<K: Part + Drop> Level<K> {
         ensures sound { OnOk result (AreSound K.entries K.sound self.new.children.items) }
     {
         let at = seek(self.children.as_slice(), &item.entry.key);
-        let child = self.children.remove(at);
-        let (child, more) = child.put(item)?;
-        put_back(&mut self.children, at, child, more)
+        let children = self.children.as_mut_slice();
+        let more = children[at].put(item)?;
+        insert_behind(&mut self.children, at, more)
     }
 
     /// Takes the entry of this key away. Perhaps no part is left.
@@ -132,7 +138,7 @@ impl<K: Part + Drop> Level<K> {
         let child = self.children.remove(at);
         match child.remove(key)? {
             None => Ok(()),
-            Some(child) => put_back(&mut self.children, at, child, None),
+            Some(child) => put_back(&mut self.children, at, child),
         }
     }
 
@@ -146,19 +152,24 @@ impl<K: Part + Drop> Level<K> {
         }
     }
 
-    /// Cuts the block in two where it has too many parts, and gives its end.
-    pub(crate) fn cut(&mut self) -> Result<Option<Level<K>>, NoMemory>
-        requires sound { AreSound K.entries K.sound self.old.children.items }
-        ensures same { IfOk result (λ more. flat_map K.entries self.new.children.items ++
-            and_more (λ l. flat_map K.entries l.children.items) more ≡ flat_map K.entries self.old.children.items) }
-        ensures sound { IfOk result (λ more. AreSound K.entries K.sound self.new.children.items ×
-            IfSome more (λ l. AreSound K.entries K.sound l.children.items)) }
+    /// It has too many parts.
+    pub(crate) fn is_large(&self) -> bool
+        ensures more { IsTrue result → LIMIT < length self.now.children.items }
     {
-        if self.children.len() <= LIMIT {
-            return Ok(None);
-        }
+        self.children.len() > LIMIT
+    }
+
+    /// Cuts the end off a block with too many parts.
+    pub(crate) fn cut(&mut self) -> Result<Level<K>, NoMemory>
+        requires sound { AreSound K.entries K.sound self.old.children.items }
+        requires large { LIMIT < length self.old.children.items }
+        ensures same { IfOk result (λ end. flat_map K.entries self.new.children.items ++
+            flat_map K.entries end.children.items ≡ flat_map K.entries self.old.children.items) }
+        ensures sound { IfOk result (λ end. AreSound K.entries K.sound self.new.children.items ×
+            AreSound K.entries K.sound end.children.items) }
+    {
         match self.children.split_off(LIMIT / 2) {
-            Ok(children) => Ok(Some(Level { children })),
+            Ok(children) => Ok(Level { children }),
             Err(_) => Err(NoMemory),
         }
     }

@@ -1,13 +1,12 @@
 //! Rows by their keys, as a tree of shared blocks: a snapshot costs two counts, and a write copies one block a level.
 #![tactic(auto)]
 
+mod head;
 mod item;
 mod level;
 mod node;
 mod part;
 mod seek;
-#[cfg(test)]
-mod tests;
 mod tree;
 mod walk;
 

@@ -6,6 +6,7 @@ ghost use Rattle.std.specs.FinMap.Entries.{find, put};
 ghost use Rattle.std.specs.Arc.{arc_value};
 ghost use Rattle.rl_value.specs.Order.{row_cmp};
 ghost use Rattle.row_tree.specs.Entries.{Entries, first_key, without, and_more};
+ghost use Rattle.row_tree.specs.Heads.{head_of, least_key};
 
 use crate::item::Item;
 use rl_value::{NoMemory, Row};
@@ -35,6 +36,12 @@ pub(crate) trait Part: Sized {
         requires sound { sound self.now }
         ensures least { first_key (entries self.now) ≡ Some result.now };
 
+    /// The number that the least key begins with, where it begins with one. It is at hand without a way down.
+    fn head(&self) -> &Option<i64>
+        requires sound { sound self.now }
+        ensures least { first_key (entries self.now) ≡ Some (least_key (entries self.now)) }
+        ensures head { result.now ≡ head_of (least_key (entries self.now)) };
+
     /// The first entry, under another owner.
     fn first(&self) -> Result<Item, NoMemory>
         requires sound { sound self.now }
@@ -45,12 +52,12 @@ pub(crate) trait Part: Sized {
         requires sound { sound self.now }
         ensures found { option_copied result ≡ find row_cmp key.now (entries self.now) };
 
-    /// With an entry in place of the one with its key. A part that would grow too large is cut in two.
-    fn put(self, item: Item) -> Result<(Self, Option<Self>), NoMemory>
-        requires sound { sound self }
-        ensures put { IfOk result (λ r. entries r.0 ++ and_more entries r.1 ≡
-            put row_cmp (arc_value item.entry).key (arc_value item.entry).row (entries self)) }
-        ensures sound { IfOk result (λ r. sound r.0 × IfSome r.1 sound) };
+    /// Puts an entry in place of the one with its key. A part that would grow too large is cut in two, and its end comes back.
+    fn put(&mut self, item: Item) -> Result<Option<Self>, NoMemory>
+        requires sound { sound self.old }
+        ensures put { IfOk result (λ more. entries self.new ++ and_more entries more ≡
+            put row_cmp (arc_value item.entry).key (arc_value item.entry).row (entries self.old)) }
+        ensures sound { IfOk result (λ more. sound self.new × IfSome more sound) };
 
     /// Without the entry of this key; None where no entry is left.
     fn remove(self, key: &Row) -> Result<Option<Self>, NoMemory>

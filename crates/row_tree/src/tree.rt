@@ -9,6 +9,7 @@ ghost use Rattle.std.specs.FinMap.Entries.{find, put};
 ghost use Rattle.rl_value.specs.Order.{row_cmp};
 ghost use Rattle.row_tree.specs.Entries.{without};
 
+use crate::head::head_of;
 use crate::item::{Entry, Item};
 use crate::node::Node;
 use crate::part::Part;
@@ -107,10 +108,11 @@ impl Tree {
         ensures put { IfOk result (λ tree. tree ≡ put row_cmp key row self) }
     {
         let alloc = self.alloc;
+        let head = head_of(&key);
         let Ok(entry) = Arc::new(alloc, Entry { key, row }) else {
             return Err(NoMemory);
         };
-        let item = Item { entry };
+        let item = Item { entry, head };
         match self.root {
             None => {
                 let root = Root::one(alloc, item)?;
@@ -120,7 +122,8 @@ impl Tree {
                 })
             }
             Some(root) => {
-                let root = root.put_whole(item)?;
+                let mut root = root;
+                root.put_whole(item)?;
                 Ok(Tree {
                     alloc,
                     root: Some(root),

@@ -16,8 +16,6 @@ mod script;
 mod settings;
 mod standby_statements;
 mod statement;
-#[cfg(test)]
-mod tests;
 mod user_statements;
 mod values;
 pub mod worked;

@@ -7,8 +7,6 @@ mod fault;
 mod laws;
 mod numbers;
 mod parts;
-#[cfg(test)]
-mod tests;
 mod words;
 
 pub use fault::WordsFault;

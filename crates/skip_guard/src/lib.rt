@@ -12,8 +12,6 @@ mod naming;
 mod pattern;
 mod pattern_form;
 mod skips;
-#[cfg(test)]
-mod tests;
 
 pub use entry::{SkipEntry, SkipFault, SkipRule};
 pub use guard::{Level, allowed};

@@ -5,7 +5,6 @@
 
 mod command;
 mod ended;
-mod fault_words;
 mod finished;
 mod fold;
 mod folding;
@@ -14,8 +13,6 @@ mod printing;
 mod reading;
 mod say;
 mod still;
-#[cfg(test)]
-mod tests;
 mod unused;
 mod verdict_words;
 mod words;

@@ -7,9 +7,9 @@ ghost use Rattle.redo_spec.specs.Skips.{full_name};
 ghost use Rattle.redo_spec.specs.Lines.{table_name, column_name, miss_text, law_text, cause_text, stop_text, pos_text, verdict_text};
 ghost use Rattle.standby.specs.Printing.{spaced_words};
 
-use crate::fault_words::{cut_word, head_word, vector_word};
 use crate::output::{push_bytes, push_decimal, push_number, push_word};
 use redo_dict::Dict;
+use redo_faults::{cut_word, head_word, vector_word};
 use redo_vec::TableRow;
 use rl_base::Line;
 use rl_text::{put_key, put_value, put_xid};

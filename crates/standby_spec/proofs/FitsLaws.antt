@@ -7,7 +7,7 @@ use Rattle.std.proofs.lemmas.Bool.Decides.{nat_tests}
 use Rattle.rl_value.specs.declared.verdict.Verdict.TheVariants.{RowLimit}
 use Rattle.rl_value.specs.Outcome.{map_ok}
 use Rattle.redo_spec.specs.Dictionary.{ids_rise}
-use Rattle.redo_spec.specs.History.{commits_after}
+use Rattle.redo_spec.specs.History.{commits_after, commit_count}
 use Rattle.redo_spec.specs.Skips.{Skip, is_maintained}
 use Rattle.redo_spec.specs.Tables.{Table, Tables, row_count, definitions_of}
 use Rattle.redo_spec.specs.Fold.{Base, commit_effects, tables_at, scn_at, live_row_limit, visible_tables, stop_of_commit, stop_at}
@@ -158,12 +158,12 @@ few-rows scn rows e = elim (nat_lt live_row_limit rows) as (λ b. (if b then Som
 same-count : (m n : ℕ) → m ≤ n → n ≤ m → m ≡ n
 same-count m n f g = omega (arith, f, g)
 
-pub itself-fits : (b : Base) (logs : Archived) (begun : ℕ) (s : KeptState) → Fits b logs begun s →
-    ids_rise 0 (definitions_of s.tables) ≡ true →
-    Fits (base_of s) logs s.n s
-itself-fits b logs begun s f rise =
+-- a state whose mark and rules are right at its count, and whose rows are few enough, fits over itself
+pub own-fits : (logs : Archived) (s : KeptState) → s.n ≤ commit_count (commits_of logs s) →
+    nat_lt live_row_limit (row_count s.tables) ≡ false → IfSome s.mark (IsMarkOf logs s s.n) →
+    AllByRecursion (λ k. k.from ≤ s.n) s.skips → ids_rise 0 (definitions_of s.tables) ≡ true → Fits (base_of s) logs s.n s
+own-fits logs s made few mark rules rise =
     let cs = commits_of logs s in
-    let run = f.run in
     let none : s.n - s.n ≡ 0 = omega arith in
     let at : tables_at (base_of s) s.skips cs s.n ≡ Ok s.tables =
     ap (λ k. commit_effects s.skips s.n s.tables (take k (commits_after cs s.n))) none in
@@ -171,10 +171,6 @@ itself-fits b logs begun s f rise =
     all-shown s.skips s.n s.tables s.tables (finds-itself 0 s.tables rise) in
     let scn : scn_at (base_of s) cs s.n ≡ s.scn =
     ap (λ t. if t then s.scn else option_map_or (λ c. c.scn) (slice_get cs.made (s.n - (cs.before + 1))) s.scn) (same_id s.n) in
-    let before : stop_at b s.skips cs s.n ≡ None = f.applied s.n run (omega arith) in
-    let few : nat_lt live_row_limit (row_count s.tables) ≡ false = few-rows (scn_at b cs s.n) (row_count s.tables)
-    (sym (ap (stop_of_commit (scn_at b cs s.n)) (row-counted (visible_tables s.skips s.n b.local) s.tables
-    (tables_at b s.skips cs s.n) f.shows.shown)) ∙ before) in
     let limit : stop_at (base_of s) s.skips cs s.n ≡ None =
     ap (λ r. stop_of_commit (scn_at (base_of s) cs s.n) (map_ok
     (λ tables. row_count (visible_tables s.skips s.n s.tables tables)) r)) at
@@ -184,11 +180,24 @@ itself-fits b logs begun s f rise =
       base = omega arith;
       run = omega arith;
       shows = record {
-        made = f.shows.made;
+        made = made;
         shown = ap (map_ok (visible_tables s.skips s.n s.tables)) at ∙ ap (λ ts. Ok ts) shown;
         scn = sym scn;
       };
       applied = λ i from to. subst (λ k. stop_at (base_of s) s.skips cs k ≡ None) (same-count s.n i from to) limit;
-      mark = f.mark;
-      skips = all_weaker (λ k. k.from ≤ begun) (λ k. k.from ≤ s.n) (λ k le. omega (arith, le, run)) s.skips f.skips;
+      mark = mark;
+      skips = rules;
     }
+
+pub itself-fits : (b : Base) (logs : Archived) (begun : ℕ) (s : KeptState) → Fits b logs begun s →
+    ids_rise 0 (definitions_of s.tables) ≡ true →
+    Fits (base_of s) logs s.n s
+itself-fits b logs begun s f rise =
+    let cs = commits_of logs s in
+    let run = f.run in
+    let before : stop_at b s.skips cs s.n ≡ None = f.applied s.n run (omega arith) in
+    let few : nat_lt live_row_limit (row_count s.tables) ≡ false = few-rows (scn_at b cs s.n) (row_count s.tables)
+    (sym (ap (stop_of_commit (scn_at b cs s.n)) (row-counted (visible_tables s.skips s.n b.local) s.tables
+    (tables_at b s.skips cs s.n) f.shows.shown)) ∙ before) in
+    own-fits logs s f.shows.made few f.mark
+    (all_weaker (λ k. k.from ≤ begun) (λ k. k.from ≤ s.n) (λ k le. omega (arith, le, run)) s.skips f.skips) rise

@@ -31,8 +31,8 @@ use Rattle.standby_spec.specs.KeptState.{KeptState}
 use Rattle.standby_spec.specs.Layout.{pairs_of}
 use Rattle.standby_spec.specs.Writable.{can_be_written}
 use Rattle.standby_spec.specs.Writings.{Writing, AddLog, AddSkip, SetLevel, PutRow, Publish, KeepMark, skip_from, row_write, writable, items_for, items_for_all, state_after, state_after_all}
-use Rattle.standby_spec.specs.Refusals.{Twice, Limit, passes_limit}
-use Rattle.standby_spec.specs.HasLayout.{IsLogOf, AreAcceptedBehind, IsSkip, AreValues, IsRowOfValues, IsTableOfValues, HasLayout, IsWholeWrite, LeavesLayout, MayAllBeDone}
+use Rattle.standby_spec.specs.Refusals.{Twice, Limit, passes_limit, front_of}
+use Rattle.standby_spec.specs.HasLayout.{IsLogOf, AreAcceptedBehind, IsSkip, AreValues, IsRowOfValues, IsTableOfValues, HasLayout, IsWriteOfValues, IsWholeWrite, LeavesLayout, MayAllBeDone, AreWhole}
 use Rattle.standby_spec.specs.Loading.{lies_in, is_mark_in}
 use Rattle.standby_spec.proofs.ItemLaws.{same-definitions, writing-leads}
 use Rattle.standby_spec.proofs.StoreLaws.{and-left, and-right, both-true, same_nat, batch-append}
@@ -362,3 +362,28 @@ writings-lead s (w ∷ ws) h may =
     batch-append (items_for w s) (items_for_all ws (state_after w s)) (pairs_of s)
     ∙ ap (after_batch (items_for_all ws (state_after w s))) (writing-leads s w h may.0.0)
     ∙ writings-lead (state_after w s) ws (leaves-layout s w h may.0.1) may.1
+
+pub writings-layout : (s : KeptState) (ws : List Writing) → HasLayout s → MayAllBeDone ws s → HasLayout (state_after_all ws s)
+writings-layout s [] h may = h
+writings-layout s (w ∷ ws) h may = writings-layout (state_after w s) ws (leaves-layout s w h may.0.1) may.1
+
+whole-keys : (ws : List Write) → AllByRecursion IsWholeWrite ws → AllByRecursion IsWriteOfValues ws
+whole-keys [] all = tt
+whole-keys (w ∷ ws) all = (all.0.key, whole-keys ws all.1)
+
+-- the front of a group of whole writes may be done
+pub front-may : (s : KeptState) (commits : List (ℕ × List Write)) → AreWhole commits s → s.n + length commits < 2 ^ 62 →
+    MayAllBeDone (front_of s commits) s
+front-may s [] whole few = tt
+front-may s ((at_scn, ws) ∷ more) whole few =
+    let later = state_after (Publish at_scn ws) s in
+    let first : s.n + 1 < 2 ^ 62 = omega (arith, few) in
+    let others : (s.n + 1) + length more < 2 ^ 62 = omega (arith, few) in
+    elim (passes_limit s.tables (writable s.tables ws)) as (λ x. passes_limit s.tables (writable s.tables ws) ≡ x →
+    MayAllBeDone (if x then [] else Publish at_scn ws ∷ front_of later more) s) [
+      | true ↦ λ over. tt
+      | false ↦ λ under. (
+        (whole-keys ws whole.0.0, (whole.0.0, (under, (first, whole.0.1.1)))),
+        front-may later more whole.1 others,
+      )
+    ] refl

@@ -7,7 +7,6 @@ pub mod ReadLaws
 pub mod RuleLaws
 pub mod ReadRowLaws
 pub mod LoadLaws
-pub mod FieldLaws
 pub mod SpellLaws
 pub mod PublishLaws
 pub mod FitsLaws
@@ -18,3 +17,4 @@ pub mod PublisherLaws
 pub mod WrittenLaws
 pub mod LayoutLaws
 pub mod OverLaws
+pub mod RestLaws

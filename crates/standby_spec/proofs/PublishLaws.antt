@@ -1,5 +1,5 @@
 -- Laws of publishing: the next commit of the redo leaves a state that fits.
-use Rattle.std.proofs.Common.{◌≡◌, ℕ, ◌+◌, ◌≤◌, List, [], ◌∷◌, sym, ap, ◌∙◌, refl, subst, Bool, true, false, cond, not, ◌||◌, ◌&&◌, ◌==◌, nat_le, Option, Some, None, Result, Ok, Err, IfOk, arith}
+use Rattle.std.proofs.Common.{◌≡◌, ℕ, ◌+◌, ◌≤◌, List, [], ◌∷◌, sym, ap, ◌∙◌, refl, subst, Bool, true, false, cond, not, ◌||◌, ◌&&◌, ◌==◌, nat_le, Option, Some, None, Result, Ok, Err, IfOk, arith, length}
 use Rattle.std.specs.Prelude.{if◌then◌else◌, IfSome, unwrap_or}
 use Rattle.std.proofs.lemmas.Bool.Decides.{nat_tests}
 use Rattle.std.specs.List.{list_any, list_all, find, AllByRecursion}
@@ -18,9 +18,10 @@ use Rattle.standby_spec.specs.declared.mark.Mark.{Mark}
 use Rattle.standby_spec.specs.KeptState.{KeptState}
 use Rattle.standby_spec.specs.Checkpoint.{IsMarkOf}
 use Rattle.standby_spec.specs.StandbyRedo.{Archived, redo_entries, commits_of}
-use Rattle.standby_spec.specs.Writings.{state_after, Publish, writable}
-use Rattle.standby_spec.specs.Refusals.{passes_limit}
-use Rattle.standby_spec.specs.NextCommit.{is_left, leave_local, IsNextCommit}
+use Rattle.standby_spec.specs.Writings.{state_after, state_after_all, Publish, writable}
+use Rattle.standby_spec.specs.HasLayout.{AreWhole}
+use Rattle.standby_spec.specs.Refusals.{passes_limit, front_of}
+use Rattle.standby_spec.specs.NextCommit.{is_left, leave_local, IsNextCommit, AreNextCommits}
 use Rattle.standby_spec.specs.Fits.{Fits}
 
 -- ---- tests
@@ -180,3 +181,25 @@ next-fits b logs begun s at_scn ws f c there whole few =
       skips = f.skips;
     } in
     subst (λ v. Fits b logs begun (with_writes s at_scn v)) (sym whole) fits
+
+-- ---- the commits of a group
+
+-- a group that is its own front is published whole
+pub group-fits : (b : Base) (logs : Archived) (begun : ℕ) (s : KeptState) (commits : List (ℕ × List Write)) →
+    Fits b logs begun s → AreNextCommits b s.skips (commits_of logs s) s.n commits →
+    s.n + length commits ≤ commit_count (commits_of logs s) → AreWhole commits s →
+    length (front_of s commits) ≡ length commits → Fits b logs begun (state_after_all (front_of s commits) s)
+group-fits b logs begun s [] f next there whole all = f
+group-fits b logs begun s ((at_scn, ws) ∷ more) f next there whole all =
+    let later = state_after (Publish at_scn ws) s in
+    let first : s.n + 1 ≤ commit_count (commits_of logs s) = omega (arith, there) in
+    let others : (s.n + 1) + length more ≤ commit_count (commits_of logs s) = omega (arith, there) in
+    elim (passes_limit s.tables (writable s.tables ws)) as (λ x. passes_limit s.tables (writable s.tables ws) ≡ x →
+    length (if x then [] else Publish at_scn ws ∷ front_of later more) ≡ length ((at_scn, ws) ∷ more) →
+    Fits b logs begun (state_after_all (if x then [] else Publish at_scn ws ∷ front_of later more) s)) [
+      | true ↦ λ over given. absurd (omega (arith, given))
+      | false ↦ λ few given. group-fits b logs begun later more
+          (next-fits b logs begun s at_scn ws f next.0 first whole.0.1.0
+          (sym (ap (passes_limit s.tables) whole.0.1.0) ∙ few))
+          next.1 others whole.1 (omega (arith, given))
+    ] refl all

@@ -1,5 +1,5 @@
 -- Laws of the publisher: a call of a run that makes a state which fits leaves a publisher that fits, however it ends.
-use Rattle.std.proofs.Common.{◌≡◌, ℕ, ◌+◌, ◌-◌, ◌≤◌, ◌<◌, List, [], ◌∷◌, take, Bool, true, false, refl, sym, ap, ◌∙◌, subst, Option, Some, None, arith, inl, inr}
+use Rattle.std.proofs.Common.{◌≡◌, ℕ, ◌+◌, ◌-◌, ◌≤◌, ◌<◌, List, [], ◌∷◌, length, take, Bool, true, false, refl, sym, ap, ◌∙◌, subst, Option, Some, None, arith, inl, inr}
 use Rattle.std.specs.Prelude.{◌&&◌, ◌==◌, nat_le, if◌then◌else◌, unwrap_or}
 use Rattle.std.proofs.lemmas.Bool.Decides.{nat_tests}
 use Rattle.std.specs.List.{find, list_all, AllByRecursion}
@@ -17,14 +17,15 @@ use Rattle.standby_spec.specs.declared.mark.Mark.{Mark}
 use Rattle.standby_spec.specs.KeptState.{KeptState, base_of}
 use Rattle.standby_spec.specs.Layout.{pairs_of}
 use Rattle.standby_spec.specs.StandbyRedo.{Archived, redo_entries, commits_of}
-use Rattle.standby_spec.specs.Writings.{Writing, AddLog, AddSkip, SetLevel, PutRow, Publish, KeepMark, state_after, items_for, state_after_all}
-use Rattle.standby_spec.specs.HasLayout.{HasLayout, MayBeDone}
+use Rattle.standby_spec.specs.Writings.{Writing, AddLog, AddSkip, SetLevel, PutRow, Publish, KeepMark, state_after, items_for, state_after_all, items_for_all}
+use Rattle.standby_spec.specs.HasLayout.{HasLayout, MayBeDone, MayAllBeDone}
 use Rattle.standby_spec.specs.Fits.{Fits}
 use Rattle.standby_spec.specs.Lawful.{beginning_base, Belongs, IsLawful}
-use Rattle.standby_spec.specs.Publishing.{Publishing, Ending, Done, Failed, Refused, StoreAfter, Does, next_shown, shown_pairs, Keeps, is_of_run, IsAhead, in_run, PublisherFits}
+use Rattle.standby_spec.specs.Publishing.{Publishing, Ending, Done, Failed, Refused, StoreAfter, Leaves, Does, DoesAll, next_shown, shown_pairs, Keeps, is_of_run, group_limit, IsAhead, in_run, PublisherFits}
 use Rattle.standby_spec.proofs.AgainLaws.{belonging-lawful}
 use Rattle.standby_spec.proofs.FitsLaws.{itself-fits}
 use Rattle.standby_spec.proofs.ItemLaws.{writing-leads}
+use Rattle.standby_spec.proofs.LayoutLaws.{writings-lead}
 use Rattle.standby_spec.proofs.OverLaws.{given, commits-same, admitted-before, same-scn}
 use Rattle.standby_spec.proofs.StoreLaws.{and-left, and-right}
 
@@ -58,7 +59,7 @@ ahead-one b logs begun s w run fits layout = record {
 old-pairs : (s : KeptState) (state : Option KeptState) → state ≡ Some s → shown_pairs state ≡ pairs_of s
 old-pairs s state e = ap shown_pairs e
 
-done-keeps : (next : KeptState → Type 0) (items : List Item) (s later : KeptState) (state : Option KeptState)
+pub done-keeps : (next : KeptState → Type 0) (items : List Item) (s later : KeptState) (state : Option KeptState)
     (old now : Option Store) →
     StoreAfter items Done old now → Told old (Keeps next false (Some s)) → after_batch items (pairs_of s) ≡ pairs_of later →
     Told now (Keeps next false (Some later))
@@ -66,12 +67,12 @@ done-keeps next items s later state None now left keeps leads = subst (λ o. Tol
 done-keeps next items s later state (Some pairs) now left keeps leads =
     subst (λ o. Told o (Keeps next false (Some later))) (sym left) (ap (after_batch items) keeps ∙ leads)
 
-refused-keeps : (next : KeptState → Type 0) (items : List Item) (s : KeptState) (old now : Option Store) →
+pub refused-keeps : (next : KeptState → Type 0) (items : List Item) (s : KeptState) (old now : Option Store) →
     StoreAfter items Refused old now → Told old (Keeps next false (Some s)) → Told now (Keeps next false (Some s))
 refused-keeps next items s None now left keeps = subst (λ o. Told o (Keeps next false (Some s))) (sym left) tt
 refused-keeps next items s (Some pairs) now left keeps = subst (λ o. Told o (Keeps next false (Some s))) (sym left) keeps
 
-failed-keeps : (next : KeptState → Type 0) (items : List Item) (s later : KeptState) (old now : Option Store) → next later →
+pub failed-keeps : (next : KeptState → Type 0) (items : List Item) (s later : KeptState) (old now : Option Store) → next later →
     StoreAfter items Failed old now → Told old (Keeps next false (Some s)) → after_batch items (pairs_of s) ≡ pairs_of later →
     Told now (Keeps next true (Some s))
 failed-keeps next items s later None now is left keeps leads = subst (λ o. Told o (Keeps next true (Some s))) (sym left) tt
@@ -81,18 +82,88 @@ failed-keeps next items s later (Some pairs) now is (inr changed) keeps leads =
     subst (λ o. Told o (Keeps next true (Some s))) (sym changed) (inr (later, (is, ap (after_batch items) keeps ∙ leads)))
 
 -- a store that is not behind a failure holds what is shown, whatever may be ahead
-done-free : (one other : KeptState → Type 0) (later : KeptState) (now : Option Store) → Told now (Keeps one false (Some later)) →
+pub done-free : (one other : KeptState → Type 0) (later : KeptState) (now : Option Store) → Told now (Keeps one false (Some later)) →
     Told now (Keeps other false (Some later))
 done-free one other later None keeps = tt
 done-free one other later (Some pairs) keeps = keeps
 
-not-both : (b : Bool) → b ≡ false → b ≡ true → ⊥
+pub not-both : (b : Bool) → b ≡ false → b ≡ true → ⊥
 not-both b e f = cc
 
 -- ---- the call
 
-rose-since : (start before now : ℕ) → start ≤ before → Rose before now → Rose start now
+pub rose-since : (start before now : ℕ) → start ≤ before → Rose before now → Rose start now
 rose-since start before now le rose = omega (arith, le, rose)
+
+-- a call that is refused, or whose commit the store refuses for want of memory, leaves what was there
+pub refused-keeps-all : {K : Type 0} (holds : K → Option Store) (faults : K → ℕ) (alone : Bool) (start : ℕ) (b : Base)
+    (logs : Archived) (opening s : KeptState) (old new : Publishing K) (items : List Item) (later : KeptState) →
+    PublisherFits holds faults start b logs opening s old → old.stopped ≡ false →
+    Leaves holds faults alone old new items later Refused → PublisherFits holds faults start b logs opening s new
+refused-keeps-all holds faults alone start b logs opening s old new items later p free leaves =
+    let kept : Told (holds old.keeper) (Keeps (IsAhead b logs opening.n s) false (Some s)) =
+    subst (λ o. Told (holds old.keeper) (Keeps (IsAhead b logs opening.n s) false o)) p.there
+    (subst (λ t. Told (holds old.keeper) (Keeps (IsAhead b logs opening.n s) t old.state)) free p.keeps) in
+    let since = p.since in
+    let behind = leaves.count.later in
+    record {
+      there = leaves.state ∙ p.there;
+      same = p.same;
+      fits = p.fits;
+      layout = p.layout;
+      keeps = subst (λ t. Told (holds new.keeper) (Keeps (IsAhead b logs opening.n s) t new.state)) (sym leaves.stopped)
+          (subst (λ o. Told (holds new.keeper) (Keeps (IsAhead b logs opening.n s) false o)) (sym (leaves.state ∙ p.there))
+          (refused-keeps (IsAhead b logs opening.n s) items s (holds old.keeper) (holds new.keeper) leaves.store kept));
+      since = omega (arith, since, behind);
+      risen = λ stopped. absurd (not-both new.stopped leaves.stopped stopped);
+    }
+
+-- a call that was to make a state which is ahead in the run, by items that lead to its pairs
+pub leaves-keeps : {K : Type 0} (holds : K → Option Store) (faults : K → ℕ) (alone : Bool) (start : ℕ) (b : Base) (logs : Archived)
+    (opening s later : KeptState) (old new : Publishing K) (items : List Item) (ending : Ending) →
+    PublisherFits holds faults start b logs opening s old → old.stopped ≡ false → IsAhead b logs opening.n s later →
+    later ≡ in_run opening later → after_batch items (pairs_of s) ≡ pairs_of later →
+    Leaves holds faults alone old new items later ending →
+    PublisherFits holds faults start b logs opening (next_shown later s ending) new
+leaves-keeps holds faults alone start b logs opening s later old new items Done p free ahead run leads leaves =
+    let kept : Told (holds old.keeper) (Keeps (IsAhead b logs opening.n s) false (Some s)) =
+    subst (λ o. Told (holds old.keeper) (Keeps (IsAhead b logs opening.n s) false o)) p.there
+    (subst (λ t. Told (holds old.keeper) (Keeps (IsAhead b logs opening.n s) t old.state)) free p.keeps) in
+    let since = p.since in
+    let behind = leaves.count.later in
+    record {
+      there = leaves.state;
+      same = run;
+      fits = ahead.fits;
+      layout = ahead.layout;
+      keeps = subst (λ t. Told (holds new.keeper) (Keeps (IsAhead b logs opening.n later) t new.state)) (sym leaves.stopped)
+          (subst (λ o. Told (holds new.keeper) (Keeps (IsAhead b logs opening.n later) false o)) (sym leaves.state)
+          (done-free (IsAhead b logs opening.n s) (IsAhead b logs opening.n later) later (holds new.keeper)
+          (done-keeps (IsAhead b logs opening.n s) items s later old.state (holds old.keeper) (holds new.keeper) leaves.store kept
+          leads)));
+      since = omega (arith, since, behind);
+      risen = λ stopped. absurd (not-both new.stopped leaves.stopped stopped);
+    }
+leaves-keeps holds faults alone start b logs opening s later old new items Failed p free ahead run leads leaves =
+    let kept : Told (holds old.keeper) (Keeps (IsAhead b logs opening.n s) false (Some s)) =
+    subst (λ o. Told (holds old.keeper) (Keeps (IsAhead b logs opening.n s) false o)) p.there
+    (subst (λ t. Told (holds old.keeper) (Keeps (IsAhead b logs opening.n s) t old.state)) free p.keeps) in
+    let since = p.since in
+    let behind = leaves.count.later in
+    record {
+      there = leaves.state ∙ p.there;
+      same = p.same;
+      fits = p.fits;
+      layout = p.layout;
+      keeps = subst (λ t. Told (holds new.keeper) (Keeps (IsAhead b logs opening.n s) t new.state)) (sym leaves.stopped)
+          (subst (λ o. Told (holds new.keeper) (Keeps (IsAhead b logs opening.n s) true o)) (sym (leaves.state ∙ p.there))
+          (failed-keeps (IsAhead b logs opening.n s) items s later (holds old.keeper) (holds new.keeper) ahead leaves.store kept
+          leads));
+      since = omega (arith, since, behind);
+      risen = λ stopped. rose-since start (faults old.keeper) (faults new.keeper) p.since leaves.count.rose;
+    }
+leaves-keeps holds faults alone start b logs opening s later old new items Refused p free ahead run leads leaves =
+    refused-keeps-all holds faults alone start b logs opening s old new items later p free leaves
 
 pub call-keeps : {K : Type 0} (holds : K → Option Store) (faults : K → ℕ) (alone : Bool) (start : ℕ) (b : Base) (logs : Archived)
     (opening s : KeptState)
@@ -101,71 +172,31 @@ pub call-keeps : {K : Type 0} (holds : K → Option Store) (faults : K → ℕ) 
     is_of_run w ≡ true → MayBeDone w s → Fits b logs opening.n (state_after w s) → HasLayout (state_after w s) →
     Does holds faults alone w s old new ending →
     PublisherFits holds faults start b logs opening (next_shown (state_after w s) s ending) new
-call-keeps holds faults alone start b logs opening s old new w Done p free run may fits layout does =
-    let kept : Told (holds old.keeper) (Keeps (IsAhead b logs opening.n s) false (Some s)) =
-    subst (λ o. Told (holds old.keeper) (Keeps (IsAhead b logs opening.n s) false o)) p.there
-    (subst (λ t. Told (holds old.keeper) (Keeps (IsAhead b logs opening.n s) t old.state)) free p.keeps) in
-    let since = p.since in
-    let later = does.count.later in
-    record {
-      there = does.state;
-      same = run-changes opening s w run p.same;
-      fits = fits;
-      layout = layout;
-      keeps = subst (λ t. Told (holds new.keeper) (Keeps (IsAhead b logs opening.n (state_after w s)) t new.state))
-          (sym does.stopped)
-          (subst (λ o. Told (holds new.keeper) (Keeps (IsAhead b logs opening.n (state_after w s)) false o)) (sym does.state)
-          (done-free (IsAhead b logs opening.n s) (IsAhead b logs opening.n (state_after w s)) (state_after w s)
-          (holds new.keeper)
-          (done-keeps (IsAhead b logs opening.n s) (items_for w s) s (state_after w s) old.state (holds old.keeper)
-          (holds new.keeper) does.store kept (writing-leads s w p.layout may))));
-      since = omega (arith, since, later);
-      risen = λ stopped. absurd (not-both new.stopped does.stopped stopped);
-    }
-call-keeps holds faults alone start b logs opening s old new w Failed p free run may fits layout does =
-    let kept : Told (holds old.keeper) (Keeps (IsAhead b logs opening.n s) false (Some s)) =
-    subst (λ o. Told (holds old.keeper) (Keeps (IsAhead b logs opening.n s) false o)) p.there
-    (subst (λ t. Told (holds old.keeper) (Keeps (IsAhead b logs opening.n s) t old.state)) free p.keeps) in
-    let since = p.since in
-    let later = does.count.later in
-    record {
-      there = does.state ∙ p.there;
-      same = p.same;
-      fits = p.fits;
-      layout = p.layout;
-      keeps = subst (λ t. Told (holds new.keeper) (Keeps (IsAhead b logs opening.n s) t new.state)) (sym does.stopped)
-          (subst (λ o. Told (holds new.keeper) (Keeps (IsAhead b logs opening.n s) true o)) (sym (does.state ∙ p.there))
-          (failed-keeps (IsAhead b logs opening.n s) (items_for w s) s (state_after w s) (holds old.keeper) (holds new.keeper)
-          (ahead-one b logs opening.n s w run fits layout) does.store kept (writing-leads s w p.layout may)));
-      since = omega (arith, since, later);
-      risen = λ stopped. rose-since start (faults old.keeper) (faults new.keeper) p.since does.count.rose;
-    }
-call-keeps holds faults alone start b logs opening s old new w Refused p free run may fits layout does =
-    let kept : Told (holds old.keeper) (Keeps (IsAhead b logs opening.n s) false (Some s)) =
-    subst (λ o. Told (holds old.keeper) (Keeps (IsAhead b logs opening.n s) false o)) p.there
-    (subst (λ t. Told (holds old.keeper) (Keeps (IsAhead b logs opening.n s) t old.state)) free p.keeps) in
-    let since = p.since in
-    let later = does.count.later in
-    record {
-      there = does.state ∙ p.there;
-      same = p.same;
-      fits = p.fits;
-      layout = p.layout;
-      keeps = subst (λ t. Told (holds new.keeper) (Keeps (IsAhead b logs opening.n s) t new.state)) (sym does.stopped)
-          (subst (λ o. Told (holds new.keeper) (Keeps (IsAhead b logs opening.n s) false o)) (sym (does.state ∙ p.there))
-          (refused-keeps (IsAhead b logs opening.n s) (items_for w s) s (holds old.keeper) (holds new.keeper) does.store kept));
-      since = omega (arith, since, later);
-      risen = λ stopped. absurd (not-both new.stopped does.stopped stopped);
-    }
+call-keeps holds faults alone start b logs opening s old new w ending p free run may fits layout does =
+    leaves-keeps holds faults alone start b logs opening s (state_after w s) old new (items_for w s) ending p free
+    (ahead-one b logs opening.n s w run fits layout) (run-changes opening s w run p.same) (writing-leads s w p.layout may) does
 
--- ---- the store of a publisher that fits
+-- ---- several writings that one commit of the store does
 
-all-changes : (opening s : KeptState) (ws : List Writing) → list_all is_of_run ws ≡ true → s ≡ in_run opening s →
+pub all-changes : (opening s : KeptState) (ws : List Writing) → list_all is_of_run ws ≡ true → s ≡ in_run opening s →
     state_after_all ws s ≡ in_run opening (state_after_all ws s)
 all-changes opening s [] run same = same
 all-changes opening s (w ∷ ws) run same =
     all-changes opening (state_after w s) ws (and-right (is_of_run w) (list_all is_of_run ws) run)
     (run-changes opening s w (and-left (is_of_run w) (list_all is_of_run ws) run) same)
+
+pub group-keeps : {K : Type 0} (holds : K → Option Store) (faults : K → ℕ) (alone : Bool) (start : ℕ) (b : Base) (logs : Archived)
+    (opening s : KeptState) (old new : Publishing K) (ws : List Writing) (ending : Ending) →
+    PublisherFits holds faults start b logs opening s old → old.stopped ≡ false → length ws ≤ group_limit →
+    list_all is_of_run ws ≡ true → MayAllBeDone ws s → Fits b logs opening.n (state_after_all ws s) →
+    HasLayout (state_after_all ws s) → DoesAll holds faults alone ws s old new ending →
+    PublisherFits holds faults start b logs opening (next_shown (state_after_all ws s) s ending) new
+group-keeps holds faults alone start b logs opening s old new ws ending p free few run may fits layout does =
+    leaves-keeps holds faults alone start b logs opening s (state_after_all ws s) old new (items_for_all ws s) ending p free
+    (record { writings = ws; few = few; run = run; made = refl; fits = fits; layout = layout })
+    (all-changes opening s ws run p.same) (writings-lead s ws p.layout may) does
+
+-- ---- the store of a publisher that fits
 
 -- a table that is shown by its id among tables of the same definitions has its own
 own-behind : (t : Table) (all us : Tables) (least : ℕ) → t.row.id < least → ids_rise least (definitions_of us) ≡ true →
@@ -212,7 +243,7 @@ shown-definitions skips n all (u ∷ us) is =
     λ i. here i ∷ rest i
 
 -- what a run makes of a state that belongs to archived logs belongs to them
-run-belongs : (logs : Archived) (opening s : KeptState) → Belongs logs opening →
+pub run-belongs : (logs : Archived) (opening s : KeptState) → Belongs logs opening →
     Fits (base_of opening) logs opening.n (in_run opening s) →
     HasLayout (in_run opening s) → Belongs logs (in_run opening s)
 run-belongs logs opening s is f h =

@@ -36,7 +36,7 @@ use Rattle.standby_spec.specs.Writings.{log_limit}
 use Rattle.standby_spec.specs.HasLayout.{IsStoreOfBytes}
 use Rattle.standby_spec.specs.Loading.{StorePlace, KeyValue, of_area, has_key, read_area, when_true, read_whole, byte_in, Identity, level_of, identity_in, with_first_log, standby_step, no_fault, is_log_of, log_step, tables_with, table_step, rule_in, with_rule, skip_step, Applied, applied_step, mark_in, is_mark_in, mark_step}
 use Rattle.standby_spec.proofs.AreaLaws.{number-rises}
-use Rattle.standby_spec.proofs.FieldLaws.{bytes_fit, drop_fits, spelled4, spelled8, joined, header_passed, header_spelled}
+use Rattle.redo_spec.proofs.FieldLaws.{bytes_fit, drop_fits, spelled4, spelled8, joined, header_passed, header_spelled}
 use Rattle.standby_spec.proofs.ReadLaws.{log_pair, table_pair, skip_pair, skip_pairs, applied_pairs, mark_value, mark_pairs}
 use Rattle.standby_spec.proofs.StoreLaws.{and-left, and-right, first-of, second-of, same_nat, bytes_is}
 

@@ -32,7 +32,7 @@ use Rattle.standby_spec.specs.Layout.{row_place, row_items}
 use Rattle.standby_spec.specs.HasLayout.{AreValues}
 use Rattle.standby_spec.specs.Loading.{KeyValue, read_area, after_value, values_within, values_in, table_added, row_into, with_rows_of, table_with_pair, row_step}
 use Rattle.standby_spec.proofs.AreaLaws.{put_items}
-use Rattle.standby_spec.proofs.FieldLaws.{bytes_fit, are_bytes, spelled4, drop_fits, below32}
+use Rattle.redo_spec.proofs.FieldLaws.{bytes_fit, are_bytes, spelled4, drop_fits, below32}
 use Rattle.standby_spec.proofs.ItemLaws.{written-tables, same-definitions}
 use Rattle.standby_spec.proofs.ReadLaws.{table_pair}
 use Rattle.standby_spec.proofs.RowLaws.{bytes_of, AreTablesOfKeys, lesser, write-leaves}

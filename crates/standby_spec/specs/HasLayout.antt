@@ -138,3 +138,11 @@ LeavesLayout (KeepMark k) s = IsMark k × IsTrue (is_mark_in s.logs s.n k)
 abbrev pub MayAllBeDone : List Writing → KeptState → Type 0
 MayAllBeDone [] s = ⊤
 MayAllBeDone (w ∷ ws) s = (MayBeDone w s × LeavesLayout w s) × MayAllBeDone ws (state_after w s)
+
+-- What a group of commits must be, so that publishing it leaves a state that has a layout: rows that have a spelling, writes
+-- that may be put in place one commit after the other, and SCNs that fit their field.
+abbrev pub AreWhole : List (ℕ × List Write) → KeptState → Type 0
+AreWhole [] s = ⊤
+AreWhole ((at_scn, writes) ∷ more) s =
+    (AllByRecursion IsWholeWrite writes × ((writable s.tables writes ≡ writes) × (at_scn < 2 ^ 64)))
+    × AreWhole more (state_after (Publish at_scn writes) s)

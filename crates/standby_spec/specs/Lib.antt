@@ -11,4 +11,5 @@ pub mod NextCommit
 pub mod Fits
 pub mod Lawful
 pub mod Publishing
+pub mod AtRest
 pub mod Worked

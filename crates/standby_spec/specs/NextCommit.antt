@@ -1,5 +1,5 @@
 -- What is handed to be published next: an SCN, and writes that lead from the tables at a count to those at the next.
-use Rattle.std.specs.Prelude.{ℕ, ◌≡◌, ◌+◌, List, Bool, true, not, ◌||◌, ◌==◌, IfOk, IsTrue}
+use Rattle.std.specs.Prelude.{ℕ, ◌≡◌, ◌+◌, List, [], ◌∷◌, Bool, true, not, ◌||◌, ◌==◌, IfOk, IsTrue, ⊤}
 use Rattle.std.specs.List.{list_all, list_any}
 use Rattle.rl_value.specs.Outcome.{map_ok}
 use Rattle.redo_vec.specs.declared.table.TableRow.{TableRow}
@@ -25,3 +25,9 @@ pub record IsNextCommit (b : Base) (skips : List Skip) (commits : Commits) (n at
   pub rising : IsTrue (writes_rise writes)
   pub maintained : IfOk (tables_at b skips commits n) (λ tables. leave_local skips n writes tables ≡ true)
   pub leads : map_ok (λ tables. overlaid tables writes) (tables_at b skips commits n) ≡ tables_at b skips commits (n + 1)
+
+-- the commits behind count n, one after the other, each with its SCN and writes
+abbrev pub AreNextCommits : Base → List Skip → Commits → ℕ → List (ℕ × List Write) → Type 0
+AreNextCommits b skips commits n [] = ⊤
+AreNextCommits b skips commits n ((at_scn, writes) ∷ more) =
+    IsNextCommit b skips commits n at_scn writes × AreNextCommits b skips commits (n + 1) more

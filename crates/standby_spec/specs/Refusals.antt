@@ -1,13 +1,11 @@
 -- Why a call that writes is refused: the first reason, in the order in which reasons are told.
 -- Where none is left only the commit of the durable store, or want of memory, can keep the call from being done.
-use Rattle.std.specs.Prelude.{ℕ, ◌+◌, List, [], ◌∷◌, length, Bool, false, not, ◌==◌, nat_le, nat_lt, if◌then◌else◌, Option, Some, None, is_some}
+use Rattle.std.specs.Prelude.{ℕ, ◌+◌, List, [], ◌∷◌, length, Bool, not, ◌==◌, nat_le, nat_lt, if◌then◌else◌, Option, is_some}
 use Rattle.std.specs.FinMap.Entries as entries
 use Rattle.rl_value.specs.declared.value.Value.{Value}
 use Rattle.rl_value.specs.Order.{row_cmp}
 use Rattle.rl_value.specs.Outcome.{first_fault}
-use Rattle.redo_vec.specs.declared.table.TableRow.{TableRow}
-use Rattle.redo_spec.specs.Dictionary.{table_of}
-use Rattle.redo_spec.specs.Tables.{Rows, Tables, primary_key, row_count, definitions_of}
+use Rattle.redo_spec.specs.Tables.{Tables, row_count}
 use Rattle.redo_spec.specs.Work.{rows_of}
 use Rattle.redo_spec.specs.Skips.{Rule, has_rule, skip_limit}
 use Rattle.redo_spec.specs.Fold.{live_row_limit}
@@ -15,10 +13,11 @@ use Rattle.row_apply.specs.declared.writes.Write.{Write}
 use Rattle.row_apply.specs.Overlaid.{overlaid}
 use Rattle.standby_spec.specs.declared.mark.Mark.{Mark}
 use Rattle.standby_spec.specs.KeptState.{KeptState}
-use Rattle.standby_spec.specs.Writable.{is_alone}
+use Rattle.standby_spec.specs.Writable.{are_left_alone}
 use Rattle.standby_spec.specs.Writings.{Writing, Publish, log_limit, key_in, row_write, writable, state_after}
 
--- the causes of a refusal, in the order in which they are told; some tell the count that is there
+-- the causes of a refusal, in the order in which they are told; some tell the count that is there, and one how many commits of a
+-- group pass no limit
 pub data Refusal : Type 0 where
   Exists : Refusal
   Taken : Refusal
@@ -27,18 +26,15 @@ pub data Refusal : Type 0 where
   Limit : Refusal
   NotNext : ℕ → Refusal
   Early : ℕ → Refusal
+  RowLimitAfter : ℕ → Refusal
 
 -- a row with the same primary key is there
 abbrev pub has_row : Tables → ℕ → List Value → Bool
 has_row tables id key = is_some (entries.find row_cmp key (rows_of tables id))
 
--- another row has one of the row's unique values
-abbrev pub is_taken_in : Rows → List Value → Option TableRow → Bool
-is_taken_in rows row None = false
-is_taken_in rows row (Some t) = not (is_alone t rows (primary_key t row, row))
-
+-- another row has one of the row's unique values, once the row stands in the place of one with its key
 abbrev pub is_taken : Tables → ℕ → List Value → Bool
-is_taken tables id row = is_taken_in (rows_of tables id) row (table_of (definitions_of tables) id)
+is_taken tables id row = not (are_left_alone tables (row_write tables id row ∷ []))
 
 -- more rows than the limit would be live
 abbrev pub passes_limit : Tables → List Write → Bool
@@ -79,9 +75,16 @@ mark_refusal s k = first_fault ((nat_lt s.n k.n, Early s.n) ∷ [])
 -- ---- several commits at once
 
 -- An SCN and writes: a commit of a group. The group's front is its commits up to the first after which more rows than the limit
--- would be live, each over the tables that those before it leave. The front is what is published, by one commit of the store.
+-- would be live, each over the tables that those before it leave: so many may be published.
 abbrev pub front_of : KeptState → List (ℕ × List Write) → List Writing
 front_of s [] = []
 front_of s ((scn, writes) ∷ commits) =
     if passes_limit s.tables (writable s.tables writes) then []
     else Publish scn writes ∷ front_of (state_after (Publish scn writes) s) commits
+
+-- the first reason against a group of commits, the first of which has this number; it is refused as a whole
+abbrev pub group_refusal : KeptState → ℕ → List (ℕ × List Write) → Option Refusal
+group_refusal s number commits = first_fault (
+    (not (number == s.n + 1), NotNext s.n)
+    ∷ (nat_lt (length (front_of s commits)) (length commits), RowLimitAfter (length (front_of s commits)))
+    ∷ [])

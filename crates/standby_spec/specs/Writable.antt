@@ -35,10 +35,17 @@ row_fits None key row = false
 row_fits (Some t) key None = true
 row_fits (Some t) key (Some row) = is_row_of t.columns row && eq_by_cmp row_cmp (primary_key t row) key
 
+-- each row that is written fits its table
+abbrev pub rows_fit : Tables → List Write → Bool
+rows_fit tables writes = list_all (λ w. row_fits (table_of (definitions_of tables) w.table) w.key w.row) writes
+
+-- among the rows that are left then the written ones have their unique values alone
+abbrev pub are_left_alone : Tables → List Write → Bool
+are_left_alone tables writes =
+    list_all (λ w. is_left_alone (table_of (definitions_of tables) w.table) (rows_of (overlaid tables writes) w.table) w.key)
+    writes
+
 -- The writes may be put in place of the rows of these tables: each is of one of them, each row fits, and among the rows that are
 -- left then the written ones have their unique values alone. Over sound tables no other row needs the test.
 abbrev pub can_be_written : Tables → List Write → Bool
-can_be_written tables writes =
-    list_all (λ w. row_fits (table_of (definitions_of tables) w.table) w.key w.row) writes
-    && list_all (λ w. is_left_alone (table_of (definitions_of tables) w.table) (rows_of (overlaid tables writes) w.table) w.key)
-    writes
+can_be_written tables writes = rows_fit tables writes && are_left_alone tables writes

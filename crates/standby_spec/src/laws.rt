@@ -1,8 +1,10 @@
 //! Laws of the definitions, each stated by a public function with an empty body, or one that only calls laws of lower crates.
-ghost use Rattle.std.specs.Prelude.{◌≡◌, ◌≤◌, ◌+◌, ℕ, List, [], ◌∷◌, ◌++◌, Option, None, Bool, true, false, IsTrue};
+ghost use Rattle.std.specs.Prelude.{◌≡◌, ◌≤◌, ◌<◌, ◌+◌, ◌^◌, ℕ, List, [], ◌∷◌, ◌++◌, length, Option, None, Bool, true, false, IsTrue};
+ghost use Rattle.std.specs.List.{list_all};
 ghost use Rattle.rl_ports.specs.declared.batch.Item.{Item};
 ghost use Rattle.rl_ports.specs.Faults.{Told};
 ghost use Rattle.rl_ports.specs.Store.{Store, is_store, after_batch};
+ghost use Rattle.redo_vec.specs.declared.table.TableRow.{TableRow};
 ghost use Rattle.redo_spec.specs.Dictionary.{ids_rise};
 ghost use Rattle.redo_spec.specs.History.{Commits, commit_count};
 ghost use Rattle.redo_spec.specs.Skips.{Skip};
@@ -20,16 +22,17 @@ ghost use Rattle.standby_spec.specs.declared.mark.Mark.{Mark};
 ghost use Rattle.standby_spec.specs.KeptState.{KeptState, base_of};
 ghost use Rattle.standby_spec.specs.Layout.{items_of, pairs_of};
 ghost use Rattle.standby_spec.specs.Writable.{can_be_written};
-ghost use Rattle.standby_spec.specs.Writings.{Writing, items_for, items_for_all, state_after, state_after_all, AddLog, Publish, KeepMark, SetLevel, writable};
-ghost use Rattle.standby_spec.specs.Refusals.{passes_limit};
+ghost use Rattle.standby_spec.specs.Writings.{Writing, items_for, items_for_all, state_after, state_after_all, created_state, created_items, AddLog, Publish, KeepMark, SetLevel, writable};
+ghost use Rattle.standby_spec.specs.Refusals.{passes_limit, front_of};
 ghost use Rattle.standby_spec.specs.StandbyRedo.{Archived, standby_redo, commits_of};
 ghost use Rattle.standby_spec.specs.Checkpoint.{IsMarkOf};
-ghost use Rattle.standby_spec.specs.NextCommit.{IsNextCommit};
+ghost use Rattle.standby_spec.specs.NextCommit.{IsNextCommit, AreNextCommits};
 ghost use Rattle.standby_spec.specs.Loading.{Image, loaded, as_loaded, kept_pairs};
-ghost use Rattle.standby_spec.specs.HasLayout.{HasLayout, IsStoreOfBytes, LeavesLayout, MayBeDone, MayAllBeDone};
+ghost use Rattle.standby_spec.specs.HasLayout.{HasLayout, IsStoreOfBytes, LeavesLayout, MayBeDone, MayAllBeDone, AreWhole};
 ghost use Rattle.standby_spec.specs.Fits.{Fits, FitsStill};
 ghost use Rattle.standby_spec.specs.Lawful.{Belongs, IsLawful};
-ghost use Rattle.standby_spec.specs.Publishing.{Publishing, Ending, Does, next_shown, is_of_run, in_run, PublisherFits};
+ghost use Rattle.standby_spec.specs.Publishing.{Publishing, Ending, Refused, Leaves, Does, DoesAll, next_shown, is_of_run, group_limit, in_run, PublisherFits, HasNoStandby};
+ghost use Rattle.standby_spec.specs.AtRest.{IsAtRest, leaves_redo, RestsAfter};
 
 use redo_reader::laws::{
     the_reader_gives_the_redo, the_reader_gives_the_rest, what_was_ahead_stays,
@@ -115,11 +118,75 @@ pub fn a_call_of_a_run_leaves_a_publisher_that_fits<K: Keeper>()
         PublisherFits K.holds K.faults start b logs opening (next_shown (state_after w s) s ending) new }
 {}
 
+/// The same of several writings that one commit of the store does.
+pub fn a_group_of_a_run_leaves_a_publisher_that_fits<K: Keeper>()
+    ensures fits { (alone : Bool) (start : ℕ) (b : Base) (logs : Archived) (opening s : KeptState) (old new : Publishing K)
+        (ws : List Writing) (ending : Ending) → PublisherFits K.holds K.faults start b logs opening s old →
+        old.stopped ≡ false → length ws ≤ group_limit → IsTrue (list_all is_of_run ws) → MayAllBeDone ws s →
+        Fits b logs opening.n (state_after_all ws s) → HasLayout (state_after_all ws s) →
+        DoesAll K.holds K.faults alone ws s old new ending →
+        PublisherFits K.holds K.faults start b logs opening (next_shown (state_after_all ws s) s ending) new }
+{}
+
+/// A call that is refused leaves a publisher that fits, whatever it was to make.
+pub fn a_refused_call_leaves_a_publisher_that_fits<K: Keeper>()
+    ensures fits { (alone : Bool) (start : ℕ) (b : Base) (logs : Archived) (opening s : KeptState) (old new : Publishing K)
+        (items : List Item) (later : KeptState) → PublisherFits K.holds K.faults start b logs opening s old →
+        old.stopped ≡ false → Leaves K.holds K.faults alone old new items later Refused →
+        PublisherFits K.holds K.faults start b logs opening s new }
+{}
+
+/// A state that fits does so after the next commits of the redo are published together, where their rows may be put in place one
+/// commit after the other and pass no limit; and each of these commits may be done, so that a layout is left.
+pub fn a_published_group_fits()
+    ensures fits { (b : Base) (logs : Archived) (begun : ℕ) (s : KeptState) (commits : List (ℕ × List Write)) →
+        Fits b logs begun s → AreNextCommits b s.skips (commits_of logs s) s.n commits →
+        s.n + length commits ≤ commit_count (commits_of logs s) → AreWhole commits s →
+        length (front_of s commits) ≡ length commits → Fits b logs begun (state_after_all (front_of s commits) s) }
+    ensures may { (s : KeptState) (commits : List (ℕ × List Write)) → AreWhole commits s → s.n + length commits < 2 ^ 62 →
+        MayAllBeDone (front_of s commits) s }
+    ensures layout { (s : KeptState) (ws : List Writing) → HasLayout s → MayAllBeDone ws s → HasLayout (state_after_all ws s) }
+{}
+
 /// A publisher that fits over the state with which its run began, which belongs to archived logs, leaves a lawful store, stopped
 /// or not.
 pub fn a_publisher_that_fits_leaves_a_lawful_store<K: Keeper>()
     ensures lawful { (start : ℕ) (logs : Archived) (opening s : KeptState) (p : Publishing K) → Belongs logs opening →
         PublisherFits K.holds K.faults start (base_of opening) logs opening s p → Told (K.holds p.keeper) (IsLawful logs) }
+{}
+
+/// A state that belongs to archived logs does so behind a change that leaves the logs and what is applied: a rule, a level of the
+/// guard, a row.
+pub fn a_change_leaves_a_state_that_belongs()
+    ensures belongs { (logs : Archived) (w : Writing) (s : KeptState) → leaves_redo w ≡ true → Belongs logs s →
+        LeavesLayout w s → Belongs logs (state_after w s) }
+{}
+
+/// A call between runs that makes a state which belongs to the archived logs leaves a publisher at rest, whether it is done, its
+/// commit of the store fails, or it is refused.
+pub fn a_call_between_runs_leaves_a_publisher_at_rest<K: Keeper>()
+    ensures rests { (alone : Bool) (start : ℕ) (logs : Archived) (s : KeptState) (old new : Publishing K) (w : Writing)
+        (ending : Ending) → IsAtRest K.holds K.faults start logs s old → old.stopped ≡ false → MayBeDone w s →
+        Belongs logs (state_after w s) → Does K.holds K.faults alone w s old new ending →
+        IsAtRest K.holds K.faults start logs (next_shown (state_after w s) s ending) new }
+    // The call that creates a standby leaves one at rest, or none.
+    ensures created { (alone : Bool) (start : ℕ) (logs : Archived) (e : LogEntry) (rows : List TableRow) (old new : Publishing K)
+        (ending : Ending) → HasNoStandby K.holds old → old.stopped ≡ false → start ≤ K.faults old.keeper →
+        Belongs logs (created_state e rows) →
+        Leaves K.holds K.faults alone old new (created_items e rows) (created_state e rows) ending →
+        RestsAfter K.holds K.faults start logs (created_state e rows) ending new }
+{}
+
+/// A publisher at rest that is not stopped fits in the run that begins with it; what a run leaves is at rest, stopped or not; and the
+/// store of a publisher at rest is lawful.
+pub fn a_run_goes_from_rest_to_rest<K: Keeper>()
+    ensures begins { (start : ℕ) (logs : Archived) (s : KeptState) (p : Publishing K) →
+        IsAtRest K.holds K.faults start logs s p → p.stopped ≡ false →
+        PublisherFits K.holds K.faults start (base_of s) logs s s p }
+    ensures ends { (start : ℕ) (logs : Archived) (opening s : KeptState) (p : Publishing K) → Belongs logs opening →
+        PublisherFits K.holds K.faults start (base_of opening) logs opening s p → IsAtRest K.holds K.faults start logs s p }
+    ensures lawful { (start : ℕ) (logs : Archived) (s : KeptState) (p : Publishing K) →
+        IsAtRest K.holds K.faults start logs s p → Told (K.holds p.keeper) (IsLawful logs) }
 {}
 
 /// The items of a call that writes lead from the pairs of a state that has a layout to those of the state after it.

@@ -5,4 +5,5 @@ pub mod Limits
 pub mod Overlaying
 pub mod Owning
 pub mod Rising
+pub mod Turning
 pub mod Writing

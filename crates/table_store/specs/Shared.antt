@@ -1,9 +1,10 @@
--- A list of tables, each of which other lists may have too.
-use Rattle.std.specs.Prelude.{ℕ, List, map, Bool, ◌==◌, if◌then◌else◌, Option, Some, None}
+-- A list of tables, each of which other lists may have too, and writes that are put into them table by table.
+use Rattle.std.specs.Prelude.{ℕ, List, [], ◌∷◌, map, ◌==◌, nat_le, if◌then◌else◌, Option, Some, None}
 use Rattle.std.specs.Arc.{arc_value}
-use Rattle.std.specs.List.{find, list_any}
+use Rattle.std.specs.List.{find}
 use Rattle.redo_spec.specs.Tables.{Table, Tables}
 use Rattle.row_apply.specs.declared.writes.Write.{Write}
+use Rattle.row_apply.specs.Overlaid.{table_after}
 use Rattle.table_store.specs.declared.shared_table.SharedTable.{SharedTable}
 
 abbrev pub id_in : SharedTable → ℕ
@@ -21,6 +22,17 @@ abbrev pub if_of_id : ℕ → Option SharedTable → Option Table
 if_of_id id None = None
 if_of_id id (Some s) = if id_in s == id then Some (arc_value s.table) else None
 
--- one of the writes is of this table
-abbrev pub is_written : ℕ → List Write → Bool
-is_written id ws = list_any (λ w. w.table == id) ws
+-- of writes that rise, those of the tables up to this id
+abbrev pub writes_up_to : ℕ → List Write → List Write
+writes_up_to id [] = []
+writes_up_to id (w ∷ ws) = if nat_le w.table id then w ∷ writes_up_to id ws else []
+
+-- and those behind them
+abbrev pub writes_past : ℕ → List Write → List Write
+writes_past id [] = []
+writes_past id (w ∷ ws) = if nat_le w.table id then writes_past id ws else w ∷ ws
+
+-- the tables with the written rows in place of theirs, where both rise by their ids: each table takes the first of the writes
+abbrev pub overlaid_in_turn : Tables → List Write → Tables
+overlaid_in_turn [] ws = []
+overlaid_in_turn (t ∷ ts) ws = table_after (writes_up_to t.row.id ws) t ∷ overlaid_in_turn ts (writes_past t.row.id ws)

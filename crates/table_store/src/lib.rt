@@ -8,9 +8,8 @@ mod owner;
 mod row_list;
 mod shared_table;
 mod stored_table;
+mod table_list;
 mod tables;
-#[cfg(test)]
-mod tests;
 mod unique_lead;
 mod view;
 

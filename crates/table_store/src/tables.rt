@@ -7,7 +7,7 @@ ghost use Rattle.std.specs.Arc.{arc_value};
 ghost use Rattle.std.specs.List.{list_any};
 ghost use Rattle.std.specs.Option.{option_copied};
 ghost use Rattle.redo_spec.specs.ConflictKeys.{is_null};
-ghost use Rattle.redo_spec.specs.Dictionary.{table_of};
+ghost use Rattle.redo_spec.specs.Dictionary.{ids_rise, table_of};
 ghost use Rattle.redo_spec.specs.Fold.{live_row_limit};
 ghost use Rattle.redo_spec.specs.Tables.{Tables, definitions_of, empty_tables, row_count};
 ghost use Rattle.redo_spec.specs.Work.{row_at, rows_of};
@@ -19,10 +19,9 @@ ghost use Rattle.table_store.specs.declared.fault.StoreFault.TheVariants.{RowLim
 
 use crate::fault::StoreFault;
 use crate::row_list::RowList;
-use crate::shared_table::{
-    SharedTable, count_rows, fits, shared, table_at, without_rows, write_tables,
-};
+use crate::shared_table::SharedTable;
 use crate::stored_table::StoredTable;
+use crate::table_list::{count_rows, fits, shared, table_at, without_rows, write_tables};
 use redo_dict::Dict;
 use rl_value::{Key, NoMemory, Row};
 use row_apply::{Rows, Write, Writes};
@@ -95,6 +94,16 @@ impl Tables {
         self.count
     }
 
+    /// How many rows the table of this id has, and 0 where there is none. It looks for the table, and at no row.
+    pub fn count_of(&self, table: u32) -> u64
+        ensures exact { result ≡ length (rows_of self.now.tables table) }
+    {
+        match self.table(table) {
+            None => 0,
+            Some(table) => table.count(),
+        }
+    }
+
     /// Equal tables, which share the blocks.
     pub fn snapshot(&self) -> Result<Tables, NoMemory>
         ensures equal { IfOk result (λ tables. tables ≡ self.now) }
@@ -138,6 +147,8 @@ impl Tables {
         requires sound { AreSound self.now.tables }
         ensures exact { result ≡ nat_le (row_count (overlaid self.now.tables writes.now)) live_row_limit }
     {
+        // The dictionary's tables rise by their ids, and so these do.
+        let _tables = self.dict.tables();
         fits(self.count, self.tables.as_slice(), writes.items())
     }
 
@@ -186,6 +197,7 @@ impl Tables {
         ensures written { IfOk result (λ after. after.tables ≡ overlaid self.tables writes.now) }
         ensures dictionary { IfOk result (λ after. after.dictionary ≡ self.dictionary) }
     {
+        let _tables = self.dict.tables();
         let Tables {
             alloc,
             dict,
@@ -224,6 +236,7 @@ fn tables_after(
     tables: Arc<Vec<SharedTable>>,
     writes: &[Write],
 ) -> Result<(Arc<Vec<SharedTable>>, u64), NoMemory>
+    requires rising { IsTrue (ids_rise 0 (definitions_of (tables_in (arc_value tables).items))) }
     requires writes_rise { IsTrue (writes_rise writes.now) }
     requires sound { AreSound (tables_in (arc_value tables).items) }
     requires sound_then { AreSound (overlaid (tables_in (arc_value tables).items) writes.now) }

@@ -11,8 +11,6 @@ mod origin;
 mod rule;
 mod steps;
 mod tells;
-#[cfg(test)]
-mod tests;
 mod token;
 
 pub use guard::Held;

@@ -6,8 +6,6 @@ mod logs;
 mod progress;
 mod skips;
 mod state;
-#[cfg(test)]
-mod tests;
 mod words;
 pub mod worked;
 

@@ -11,8 +11,6 @@ mod laws;
 mod left;
 mod logs;
 mod pair;
-#[cfg(test)]
-mod tests;
 mod text;
 pub mod worked;
 mod written;

@@ -1,5 +1,5 @@
 use Rattle.std.proofs.Common.{◌≡◌, length}
-use Rattle.eager_work.specs.Attempts.{put_writes}
+use Rattle.row_apply.specs.Written.{put_writes}
 use Rattle.eager_work.proofs.gathering.put_writes.Given as goal
 
 -- with what is left the rows are all

@@ -1,6 +1,5 @@
 use Rattle.std.proofs.Common.{ap, []}
-use Rattle.row_apply.specs.Written.{writes_in}
-use Rattle.eager_work.specs.Attempts.{put_writes}
+use Rattle.row_apply.specs.Written.{writes_in, put_writes}
 use Rattle.eager_work.proofs.WorkLaws.{stuck-on, written-on}
 use Rattle.eager_work.proofs.laws.a_stuck_work_waits.Goals as goal
 

@@ -1,6 +1,6 @@
 use Rattle.std.proofs.Common.{◌≡◌, take}
 use Rattle.std.specs.Prelude.{map}
-use Rattle.redo_lines.specs.Known.{column_word}
+use Rattle.line_fields.specs.Known.{column_word}
 use Rattle.redo_lines.proofs.printing_tables.key_parts.Given as goal
 
 -- as many are there as were passed

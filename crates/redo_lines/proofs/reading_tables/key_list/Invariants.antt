@@ -1,6 +1,6 @@
 use Rattle.std.proofs.Common.{◌≡◌, length}
 use Rattle.redo_lines.specs.Reading.{items_until, with_front, never}
-use Rattle.redo_lines.specs.Known.{column_said}
+use Rattle.line_fields.specs.Known.{column_said}
 use Rattle.redo_lines.proofs.reading_tables.key_list.Given as goal
 
 -- what is read, and what is still to be read, is what the parts say

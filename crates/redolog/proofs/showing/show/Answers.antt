@@ -1,19 +1,15 @@
-use Rattle.std.proofs.Common.{◌≡◌, Err}
-use Rattle.redolog.specs.declared.refusal.Refusal.TheVariants as refusals
-use Rattle.redolog.proofs.Heads.{told_log, told_log_ok}
+use Rattle.redolog.specs.Showing.{log_text, has_fault}
+use Rattle.redolog.proofs.Ends.{told_fault, told_whole}
 use Rattle.redolog.proofs.showing.show.Goals as goal
 
-pub returns-in-Some-clause-shown : goal.returns-in-Some-clause-shown
-returns-in-Some-clause-shown g c =
-    told_log_ok (g.I.Source.left c.args.input.now) (g.I.Source.left c.show_head.new.input) c.in-Some.head
-    (g.O.Sink.written c.args.out.now) (g.O.Sink.written c.show_head.new.out) (g.O.Sink.written c.show_blocks.new.out)
-    c.show_blocks.result c.in_ok-head.ensures.shown (rw c.in-Some.is at c.in_ok-head.ensures.head) c.in_ok-head.ensures.left
-    (rw c.new.ensures.begun at c.show_blocks.ensures.shown)
+pub returns-then-faulty-clause-shown : goal.returns-then-faulty-clause-shown
+returns-then-faulty-clause-shown g c =
+    told_fault (g.I.Source.left c.args.input.now) log_text has_fault (g.O.Sink.written c.args.out.now)
+    (g.O.Sink.written c.show_all.new.out) c.in_ok-faulty.faulty c.in_ok-faulty.ensures.shown c.in_ok-faulty.ensures.faulty
+    c.if-faulty.true
 
-pub returns-in-Some-clause-damaged : goal.returns-in-Some-clause-damaged
-returns-in-Some-clause-damaged g c =
-    told_log (c.show_blocks.result ≡ Err refusals.Damaged) (g.I.Source.left c.args.input.now)
-    (g.I.Source.left c.show_head.new.input) c.in-Some.head (g.O.Sink.written c.args.out.now)
-    (g.O.Sink.written c.show_head.new.out) (g.O.Sink.written c.show_blocks.new.out) c.in_ok-head.ensures.shown
-    (rw c.in-Some.is at c.in_ok-head.ensures.head) c.in_ok-head.ensures.left
-    (rw c.new.ensures.begun at c.show_blocks.ensures.damaged)
+pub returns-clause-shown : goal.returns-clause-shown
+returns-clause-shown g c =
+    told_whole (g.I.Source.left c.args.input.now) log_text has_fault (g.O.Sink.written c.args.out.now)
+    (g.O.Sink.written c.show_all.new.out) c.in_ok-faulty.faulty _ c.in_ok-faulty.ensures.shown c.in_ok-faulty.ensures.faulty
+    c.if-faulty.false

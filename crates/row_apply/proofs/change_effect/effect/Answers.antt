@@ -10,6 +10,7 @@ use Rattle.row_apply.proofs.Keeping.{on_ok, on_miss}
 use Rattle.row_apply.proofs.Whole.{can_change, finds_sound, all_done, all_missed, all_sound, all_of}
 use Rattle.row_apply.proofs.Touched.{writes_all, writes_stay}
 use Rattle.row_apply.proofs.Untouched.{writes_only}
+use Rattle.row_apply.proofs.Writing.{writes_rising}
 use Rattle.row_apply.proofs.change_effect.effect.Goals as goal
 
 pub change_rows-requires : goal.change_rows-requires
@@ -57,6 +58,9 @@ returns-clause-sound g c base sound =
     (subst (λ (ws : List Write). AreSound (overlaid tables ws)) (sym c.over.view_is) sound)
     (changes.sound (finds_sound tables c.args.dict.now.tables c.in-Some.table.now c.args.change.now c.requires.definitions
     c.in-Some.ensures.found c.args.over.now c.over.inside.written.rows.entries c.over.view_is base sound))
+
+pub returns-clause-rising : goal.returns-clause-rising
+returns-clause-rising g c = writes_rising c.change_rows.new.over.rows.entries c.change_rows.ensures.changes.kept.slots
 
 pub returns-clause-grows : goal.returns-clause-grows
 returns-clause-grows g c =

@@ -8,7 +8,7 @@ loop-high-preserved-then-reaches g c = record {
   inside = c.loop-high.invariant.inside;
   before = low_at g.K.Part.entries _ _ _ _ c.index-children-middle.result
       (omega (arith, c.loop-high-test.true, c.loop-high.invariant.order, c.loop-high.invariant.inside)) c.index-children-middle.is
-      c.requires.sound.rising c.least.ensures.least (sym c.reaches.ensures.exact ∙ c.if-reaches.true);
+      c.requires.sound.rising c.reaches.ensures.some (sym c.reaches.ensures.exact ∙ c.if-reaches.true);
   behind = c.loop-high.invariant.behind;
 }
 
@@ -19,5 +19,5 @@ loop-high-preserved g c = record {
   before = c.loop-high.invariant.before;
   behind = high_at g.K.Part.entries _ _ _ _ c.index-children-middle.result
       (omega (arith, c.loop-high-test.true, c.loop-high.invariant.order, c.loop-high.invariant.inside)) c.index-children-middle.is
-      c.requires.sound.rising c.least.ensures.least (sym c.reaches.ensures.exact ∙ c.if-reaches.false);
+      c.requires.sound.rising c.reaches.ensures.some (sym c.reaches.ensures.exact ∙ c.if-reaches.false);
 }

@@ -13,7 +13,7 @@ returns c =
     record {
       undone = ap (λ k. attempts_kept w.parts.items k c.take.new.self left) c.saturating_sub-self-inside.ensures
           ∙ ap (λ o. attempts_kept w.parts.items (w.standing - 1) o left) c.take.ensures.after
-          ∙ undone_done w.parts.items w.standing w.conflict w.waiting.items left c.self.invariant
+          ∙ undone_done w.parts.items w.standing w.conflict w.waiting.items left c.self.invariant.0
           (ap is_some (sym c.take.ensures.value) ∙ sym c.is_some-2.ensures ∙ c.if-is_some-2.false) none.0 none.1
           ∙ ap attempts_undone c.self.view_is;
     }

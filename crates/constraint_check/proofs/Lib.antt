@@ -1,0 +1,6 @@
+mod Rising
+mod Values
+mod Left
+mod Apart
+mod Clashes
+mod LookUpLaws

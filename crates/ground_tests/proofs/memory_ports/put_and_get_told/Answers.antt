@@ -1,0 +1,9 @@
+use Rattle.ground_tests.proofs.Chunks.{chunk-there}
+use Rattle.ground_tests.proofs.memory_ports.put_and_get_told.Goals as goal
+
+-- src/tests.rt:83:5
+pub get-requires : goal.get-requires
+get-requires c = record {
+  there = chunk-there c.args.id c.args.bytes.now c.args.spill.now.held c.put.new.self.held
+      c.in_ok-put.ensures.put;
+}

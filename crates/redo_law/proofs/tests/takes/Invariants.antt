@@ -1,5 +1,0 @@
-use Rattle.std.proofs.Common.{◌≡◌, ◌+◌}
-use Rattle.redo_law.proofs.tests.takes.Given as goal
-
-abbrev pub invariant-loop : goal.invariant-loop
-invariant-loop l = l.law.rec ≡ l.initial.law.rec + l.counter

@@ -1,6 +1,0 @@
-use Rattle.std.proofs.Common.{◌≤◌, ◌*◌, ◌^◌}
-use Rattle.log_registry.specs.Registered.{count_of}
-use Rattle.redo_reader.proofs.tests.registry_of.Given as goal
-
-abbrev pub invariant-loop-seq : goal.invariant-loop-seq
-invariant-loop-seq l = count_of l.registry ≤ l.seq-index * 2 ^ 32

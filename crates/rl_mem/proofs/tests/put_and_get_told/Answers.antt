@@ -1,9 +1,0 @@
-use Rattle.rl_mem.proofs.Chunks.{chunk-there}
-use Rattle.rl_mem.proofs.tests.put_and_get_told.Goals as goal
-
--- src/tests.rt:83:5
-pub get-requires : goal.get-requires
-get-requires c = record {
-  there = chunk-there c.args.id c.args.bytes.now c.args.spill.now.held c.put.new.self.held
-      c.in_ok-put.ensures.put;
-}
