@@ -1,0 +1,14 @@
+pub mod Walking
+pub mod Numbers
+pub mod LogLaws
+pub mod DictLaws
+pub mod RuleLaws
+pub mod Beginnings
+pub mod Alone
+pub mod TakenLaws
+pub mod RowReads
+pub mod RowPuts
+pub mod WriteLaws
+pub mod Chains
+pub mod Telling
+pub mod Whole

@@ -1,0 +1,13 @@
+mod Ends
+mod Through
+mod Ready
+mod Created
+mod RowsReady
+mod PartsReady
+mod Calls
+mod Merging
+mod GroupSteps
+mod GroupReady
+mod GroupCalls
+mod FitsCalls
+mod LoadCalls

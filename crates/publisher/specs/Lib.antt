@@ -1,0 +1,10 @@
+pub mod Endings
+pub mod Parts
+pub mod Shown
+pub mod Prepares
+pub mod Groups
+pub mod MergedRows
+pub mod PreparesGroup
+pub mod Handed
+pub mod Read
+pub mod Loads

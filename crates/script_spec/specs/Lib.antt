@@ -1,0 +1,5 @@
+pub mod ScriptState
+pub mod Statements
+pub mod Scripts
+pub mod Says
+pub mod Worked
